@@ -1,0 +1,25 @@
+-- Where a best reserve is at least the least reserve the circuit goes on, and only there. Assumes nothing.
+use Prim.Native.Nat.{ℕ, _+_, _<_, _≤_}
+use native.Mathlib.Omega.{arith}
+use mathlib.Core.Path.{_≡_, refl}
+use mathlib.Core.Bool.{true, false}
+use lib.IntN.{ℤ, pos}
+use lib.Signed.{_≤ℤ_, ltZ}
+use Rattle.ints.specs.Parts.{positive, negative}
+use Rattle.ints.proofs.Linear.{signed, lt-true, lt-false, ≤-read}
+use Rattle.model.specs.declared.Header.{Header}
+use Rattle.model.specs.Scales.{floor}
+use Rattle.model.specs.Machine.{Step, goes, stops}
+use Rattle.model.specs.Plan.{Placement, Best, placed}
+use Rattle.model.proofs.Products.{by-test}
+
+module _ (h : Header) (p : Placement) where
+  pub placed-elim : (P : Step Best ℕ → Type 0) → P (stops 6) → (pos (floor h) ≤ℤ p .reserve → P (goes (Best.ciphertext p))) → P (placed h p)
+  placed-elim P s g = by-test P (ltZ (p .reserve) (pos (floor h))) (stops 6) (goes (Best.ciphertext p)) (λ e. s) (λ e. g (omega (signed, e)))
+
+  pub placed-goes : pos (floor h) ≤ℤ p .reserve → placed h p ≡ goes (Best.ciphertext p)
+  placed-goes a = by-test (λ t. t ≡ goes (Best.ciphertext p)) (ltZ (p .reserve) (pos (floor h))) (stops 6) (goes (Best.ciphertext p))
+      (λ e. absurd (never (lt-true (p .reserve) (pos (floor h)) e) (≤-read (pos (floor h)) (p .reserve) a))) (λ e. refl)
+    where
+      never : positive (p .reserve) + 0 < floor h + negative (p .reserve) → floor h + negative (p .reserve) ≤ positive (p .reserve) + 0 → ⊥
+      never x y = omega arith

@@ -1,0 +1,232 @@
+-- The reserve bound: in every schedule that passes the check, of any length, each ciphertext's reserve is at most the best reserve of the
+-- circuit line that it comes from, and the circuit has a best reserve at every line. Assumes nothing.
+use Prim.Native.Nat.{ℕ, zero, suc, _+_, _-_, _*_, _<_, _≤_}
+use native.Mathlib.Nat.{mul-add}
+use native.Mathlib.Omega.{arith}
+use mathlib.Core.Path.{_≡_, refl, sym, ap, ap₂, _∙_, subst}
+use mathlib.Core.Bool.{Bool, true, false}
+use mathlib.Core.List.{List, []}
+use mathlib.Core.Option.{some}
+use lib.Dec.{T, eqb, eqb→eq}
+use lib.ListN.{getElem?}
+use lib.IntN.{ℤ, pos, _+ℤ_, _-ℤ_}
+use lib.Signed.{_≤ℤ_, ltZ}
+use Rattle.ints.specs.Parts.{positive, negative}
+use Rattle.ints.proofs.Linear.{signed, parts+, parts-, is-positive, ≤-read, ≡-read, lt-true}
+use Rattle.model.specs.declared.Header.{Header}
+use Rattle.model.specs.declared.Line.{Line}
+use Rattle.model.specs.Scales.{modulus, reserve, asked, floor}
+use Rattle.model.specs.Machine.{Step, goes, stops, Run, finished, run}
+use Rattle.model.specs.Rules.{Bounds}
+use Rattle.model.specs.Plan as Plan
+use Rattle.model.specs.Plan.{Placement, Best, lowestLevel, smaller, atWaterline, placeInput, placeAt, placeTimesConstant, placeConstantTimes, placeProduct, productAt, placed, onReserves, bestMachine}
+use Rattle.model.specs.Services.{erase, origins}
+use Rattle.model.specs.Refused as Refused
+use Rattle.model.specs.Refused.{Found, bounded, onPair, sum, product, checkMachine}
+use Rattle.model.proofs.Lists.{nil3, front2, All2, Beside, beside}
+use Rattle.model.proofs.Kept.{Follows, Kept, run-kept, Finished, finish, idle}
+use Rattle.model.proofs.Erasing.{through, Holds, Erased, erased}
+use Rattle.model.proofs.Products.{by-test, below-smaller, smaller-mono, optimal}
+use Rattle.model.proofs.Bounded.{bounded-elim}
+
+module _ (h : Header) where
+  -- a scale and a level in bounds, with no more reserve than p
+  pub record Within (s l : ℕ) (p : Placement) : Type 0 where
+    pub bounds : Bounds h s l
+    pub at-most : reserve h s l ≤ℤ p .reserve
+
+  -- what the check finds of a schedule's line, against the best of its circuit line
+  abbrev pub Bound : Found → Best → Unit {0} → Type 0
+  Bound Found.bare Best.constant u = Unit {0}
+  Bound Found.bare (Best.ciphertext p) u = ⊥
+  Bound (Found.encoded s l) Best.constant u = Bounds h s l
+  Bound (Found.encoded s l) (Best.ciphertext p) u = ⊥
+  Bound (Found.ciphertext s l) Best.constant u = ⊥
+  Bound (Found.ciphertext s l) (Best.ciphertext p) u = Within s l p
+
+  abbrev Keeps : Step Found ℕ → Step Best ℕ → Type 0
+  Keeps s t = Follows {E = ℕ} {D = ℕ} {G = Unit {0}} Bound s t (goes tt)
+
+  -- a best reserve is at least the least reserve
+  above : {s l : ℕ} {p : Placement} → Within s l p → pos (floor h) ≤ℤ p .reserve
+  above {s} {l} {p} w = omega (signed, w .bounds .high, w .at-most, parts- (pos (h .factor * l)) (pos s))
+
+  whole : {s l : ℕ} {p : Placement} → Within s l p → p .reserve ≡ pos (positive (p .reserve))
+  whole {p} w = is-positive (p .reserve) (omega (signed, above w))
+
+  reaches : (s l : ℕ) (p : Placement) → Bounds h s l → reserve h s l ≤ℤ p .reserve → Keeps (goes (Found.ciphertext s l)) (placed h p)
+  reaches s l p b a = by-test (Keeps (goes (Found.ciphertext s l))) (ltZ (p .reserve) (pos (floor h))) (stops 6) (goes (Best.ciphertext p))
+      (λ e. absurd (never (lt-true (p .reserve) (pos (floor h)) e) (≤-read (pos (floor h)) (p .reserve) (above w)))) (λ e. w)
+    where
+      w : Within s l p
+      w = record { bounds = b; at-most = a }
+
+      never : positive (p .reserve) + 0 < floor h + negative (p .reserve) → floor h + negative (p .reserve) ≤ positive (p .reserve) + 0 → ⊥
+      never x y = omega arith
+
+  module _ (F⁺ : zero < h .factor) (W⁺ : zero < h .waterline) where
+    -- a line whose scale and level the check bounds
+    settles : (t : Step Best ℕ) (S L : ℤ) → ((s l : ℕ) → S ≡ pos s → L ≡ pos l → Bounds h s l → Keeps (goes (Found.ciphertext s l)) t) → Keeps (bounded h Found.ciphertext S L) t
+    settles t S L k = bounded-elim h W⁺ (λ u. Keeps u t) Found.ciphertext S L (λ n. tt) k
+
+    pos-is : {m n : ℕ} → pos m ≡ pos n → m ≡ n
+    pos-is e = ap positive e
+
+    on-ciphertext : (f : ℕ → ℕ → Step Found ℕ) (g : Best → Step Best ℕ) → ((s l : ℕ) (p : Placement) → Within s l p → Keeps (f s l) (g (Best.ciphertext p)))
+        → (x : Found) (y : Best) (z : Unit {0}) → Bound x y z → Keeps (Refused.onCiphertext f x) (g y)
+    on-ciphertext f g k Found.bare y z r = tt
+    on-ciphertext f g k (Found.encoded s l) y z r = tt
+    on-ciphertext f g k (Found.ciphertext s l) Best.constant z r = absurd r
+    on-ciphertext f g k (Found.ciphertext s l) (Best.ciphertext p) z r = k s l p r
+
+    -- two ciphertexts; a ciphertext and an encoded constant; an encoded constant and a ciphertext
+    module _ (f : ℕ → ℕ → ℕ → ℕ → Step Found ℕ) (both : ℤ → ℤ → Step Best ℕ) (left right : ℤ → Step Best ℕ)
+        (k : (s l s′ l′ : ℕ) (p q : Placement) → Within s l p → Within s′ l′ q → Keeps (f s l s′ l′) (both (p .reserve) (q .reserve)))
+        (i : (s l s′ l′ : ℕ) (p : Placement) → Within s l p → Bounds h s′ l′ → Keeps (f s l s′ l′) (left (p .reserve)))
+        (j : (s l s′ l′ : ℕ) (q : Placement) → Bounds h s l → Within s′ l′ q → Keeps (f s l s′ l′) (right (q .reserve))) where
+      after-ciphertext : (s l : ℕ) (p : Placement) → Within s l p → (x′ : Found) (y′ : Best) (z′ : Unit {0}) → Bound x′ y′ z′ → Keeps (onPair f (Found.ciphertext s l) x′) (onReserves both left right (Best.ciphertext p) y′)
+      after-ciphertext s l p w Found.bare y′ z′ r = tt
+      after-ciphertext s l p w (Found.encoded s′ l′) Best.constant z′ r = i s l s′ l′ p w r
+      after-ciphertext s l p w (Found.encoded s′ l′) (Best.ciphertext q) z′ r = absurd r
+      after-ciphertext s l p w (Found.ciphertext s′ l′) Best.constant z′ r = absurd r
+      after-ciphertext s l p w (Found.ciphertext s′ l′) (Best.ciphertext q) z′ r = k s l s′ l′ p q w r
+
+      on-pair : (x : Found) (y : Best) (z : Unit {0}) → Bound x y z → (x′ : Found) (y′ : Best) (z′ : Unit {0}) → Bound x′ y′ z′ → Keeps (onPair f x x′) (onReserves both left right y y′)
+      on-pair Found.bare y z r x′ y′ z′ r′ = tt
+      on-pair (Found.encoded s l) Best.constant z r x′ y′ z′ r′ = on-ciphertext (f s l) (onReserves both left right Best.constant) (λ s′ l′ q w. j s l s′ l′ q r w) x′ y′ z′ r′
+      on-pair (Found.encoded s l) (Best.ciphertext p) z r x′ y′ z′ r′ = absurd r
+      on-pair (Found.ciphertext s l) Best.constant z r x′ y′ z′ r′ = absurd r
+      on-pair (Found.ciphertext s l) (Best.ciphertext p) z r x′ y′ z′ r′ = after-ciphertext s l p r x′ y′ z′ r′
+
+    -- `neg`, `rot`, `out`: neither scale nor level changes
+    unchanged : (p : Placement) (t : Step Best ℕ) (s l : ℕ) → ((b : Bounds h s l) → Keeps (goes (Found.ciphertext s l)) t) → Keeps (bounded h Found.ciphertext (pos s) (pos l)) t
+    unchanged p t s l k = settles t (pos s) (pos l) (λ s′ l′ e e′ b. subst (λ (m : ℕ). Keeps (goes (Found.ciphertext m l′)) t) (pos-is e) (subst (λ (m : ℕ). Keeps (goes (Found.ciphertext s m)) t) (pos-is e′)
+        (k (subst (λ (m : ℕ). Bounds h m l) (sym (pos-is e)) (subst (λ (m : ℕ). Bounds h s′ m) (sym (pos-is e′)) b)))))
+
+    sums : (t : Step Best ℕ) (s l s′ l′ : ℕ) → (l ≡ l′ → s ≡ s′ → Bounds h s l → Keeps (goes (Found.ciphertext s l)) t) → Keeps (sum h s l s′ l′) t
+    sums t s l s′ l′ k = by-test (λ u. Keeps u t) (eqb l l′) _ _
+        (λ e. by-test (λ u. Keeps u t) (eqb s s′) _ _ (λ e′. unchanged (placeAt h (pos 0)) t s l (k (eqb→eq l l′ (subst T (sym e) tt)) (eqb→eq s s′ (subst T (sym e′) tt)))) (λ e′. tt))
+        (λ e. tt)
+
+    products : (t : Step Best ℕ) (s l s′ l′ : ℕ) → (l ≡ l′ → Bounds h (s + s′) l → Keeps (goes (Found.ciphertext (s + s′) l)) t) → Keeps (product h s l s′ l′) t
+    products t s l s′ l′ k = by-test (λ u. Keeps u t) (eqb l l′) _ _ (λ e. unchanged (placeAt h (pos 0)) t (s + s′) l (k (eqb→eq l l′ (subst T (sym e) tt)))) (λ e. tt)
+
+    -- the parts of a reserve
+    parts : (s l : ℕ) → positive (reserve h s l) + s ≡ negative (reserve h s l) + h .factor * l
+    parts s l = omega (arith, parts- (pos (h .factor * l)) (pos s))
+
+    add-both : (s l s′ l′ : ℕ) (p q : Placement) → Within s l p → Within s′ l′ q → Keeps (sum h s l s′ l′) (placed h (placeAt h (smaller (p .reserve) (q .reserve))))
+    add-both s l s′ l′ p q w w′ = sums _ s l s′ l′ (λ e e′ b. reaches s l _ b (below-smaller (reserve h s l) (p .reserve) (q .reserve) (w .at-most) (subst₂′ e e′)))
+      where
+        subst₂′ : l ≡ l′ → s ≡ s′ → reserve h s l ≤ℤ q .reserve
+        subst₂′ e e′ = omega (signed, w′ .at-most, ap₂ (reserve h) e′ e)
+
+    add-left : (s l s′ l′ : ℕ) (p : Placement) → Within s l p → Bounds h s′ l′ → Keeps (sum h s l s′ l′) (placed h (placeAt h (p .reserve)))
+    add-left s l s′ l′ p w b′ = sums _ s l s′ l′ (λ e e′ b. reaches s l _ b (w .at-most))
+
+    add-right : (s l s′ l′ : ℕ) (q : Placement) → Bounds h s l → Within s′ l′ q → Keeps (sum h s l s′ l′) (placed h (placeAt h (q .reserve)))
+    add-right s l s′ l′ q b w = sums _ s l s′ l′ (λ e e′ b′. reaches s l (placeAt h (q .reserve)) b′ (omega (signed, w .at-most, ap₂ (reserve h) e′ e)))
+
+    -- a reserve that is at most r, at a scale from W on, is at most r capped
+    capped : (s l : ℕ) (p : Placement) → Within s l p → reserve h s l ≤ℤ smaller (p .reserve) (atWaterline h l)
+    capped s l p w = below-smaller (reserve h s l) (p .reserve) (atWaterline h l) (w .at-most) (omega (signed, w .bounds .low, parts s l, parts (h .waterline) l))
+
+    best-product : (p q : Placement) (l : ℕ) → p .reserve ≡ pos (positive (p .reserve)) → q .reserve ≡ pos (positive (q .reserve)) → productAt h (p .reserve) (q .reserve) l ≤ℤ (placeProduct h (p .reserve) (q .reserve) .reserve)
+    best-product p q l e e′ =
+        subst (λ (r : ℤ). productAt h r (q .reserve) l ≤ℤ (placeProduct h r (q .reserve) .reserve)) (sym e)
+        (subst (λ (r : ℤ). productAt h (pos (positive (p .reserve))) r l ≤ℤ (placeProduct h (pos (positive (p .reserve))) r .reserve)) (sym e′)
+        (optimal h F⁺ W⁺ (positive (p .reserve)) (positive (q .reserve)) .greatest l))
+
+    mul-both : (s l s′ l′ : ℕ) (p q : Placement) → Within s l p → Within s′ l′ q → Keeps (product h s l s′ l′) (placed h (placeProduct h (p .reserve) (q .reserve)))
+    mul-both s l s′ l′ p q w w′ = products _ s l s′ l′ (λ e b. reaches (s + s′) l (placeProduct h (p .reserve) (q .reserve)) b (meet e))
+      where
+        x : ℤ
+        x = smaller (p .reserve) (atWaterline h l)
+
+        y : ℤ
+        y = smaller (q .reserve) (atWaterline h l)
+
+        second : l ≡ l′ → reserve h s′ l ≤ℤ y
+        second e = capped s′ l q (subst (λ (k : ℕ). Within s′ k q) (sym e) w′)
+
+        meet : l ≡ l′ → reserve h (s + s′) l ≤ℤ (placeProduct h (p .reserve) (q .reserve) .reserve)
+        meet e = omega (signed, capped s l p w, second e, best-product p q l (whole w) (whole w′), parts s l, parts s′ l, parts (s + s′) l, parts+ x y, parts- (x +ℤ y) (pos (h .factor * l)))
+
+    mul-left : (s l s′ l′ : ℕ) (p : Placement) → Within s l p → Bounds h s′ l′ → Keeps (product h s l s′ l′) (placed h (placeTimesConstant h (p .reserve)))
+    mul-left s l s′ l′ p w b′ = products _ s l s′ l′ (λ e b. reaches (s + s′) l (placeTimesConstant h (p .reserve)) b
+        (omega (signed, w .at-most, b′ .low, parts s l, parts (s + s′) l, parts- (p .reserve) (pos (h .waterline)))))
+
+    mul-right : (s l s′ l′ : ℕ) (q : Placement) → Bounds h s l → Within s′ l′ q → Keeps (product h s l s′ l′) (placed h (placeConstantTimes h (q .reserve)))
+    mul-right s l s′ l′ q b w = products _ s l s′ l′ (λ e b′. reaches (s + s′) l (placeConstantTimes h (q .reserve)) b′
+        (omega (signed, w .at-most, b .low, ap (reserve h s′) e, parts s′ l, parts (s + s′) l, parts- (q .reserve) (pos (h .waterline)))))
+
+    -- a scale operation spends reserve or keeps it: s′ bits at level l′ are no better than s at l
+    spends : (p : Placement) (S L : ℤ) (s l : ℕ) → Within s l p → ((s′ l′ : ℕ) → S ≡ pos s′ → L ≡ pos l′ → h .factor * l′ + s ≤ h .factor * l + s′) → Keeps (bounded h Found.ciphertext S L) (goes (Best.ciphertext p))
+    spends p S L s l w k = settles (goes (Best.ciphertext p)) S L (λ s′ l′ e e′ b. record { bounds = b; at-most = omega (signed, w .at-most, k s′ l′ e e′, parts s l, parts s′ l′) })
+
+    -- what is left of a natural number
+    left-of : (a b c : ℕ) → pos a -ℤ pos b ≡ pos c → a ≡ c + b
+    left-of a b c e = omega (arith, parts- (pos a) (pos b), ≡-read (pos a -ℤ pos b) (pos c) e)
+
+    levels : (c l l′ : ℕ) → l ≡ l′ + c → h .factor * l ≡ h .factor * l′ + h .factor * c
+    levels c l l′ e = ap (λ (k : ℕ). h .factor * k) e ∙ mul-add (h .factor) l′ c
+
+    rescales : (c s l : ℕ) (p : Placement) → Within s l p → Keeps (bounded h Found.ciphertext (pos s -ℤ pos (h .factor * c)) (pos l -ℤ pos c)) (goes (Best.ciphertext p))
+    rescales c s l p w = spends p (pos s -ℤ pos (h .factor * c)) (pos l -ℤ pos c) s l w (λ s′ l′ e e′. omega (arith, left-of s (h .factor * c) s′ e, levels c l l′ (left-of l c l′ e′)))
+
+    switches : (c s l : ℕ) (p : Placement) → Within s l p → Keeps (bounded h Found.ciphertext (pos s) (pos l -ℤ pos c)) (goes (Best.ciphertext p))
+    switches c s l p w = spends p (pos s) (pos l -ℤ pos c) s l w (λ s′ l′ e e′. omega (arith, pos-is e, levels c l l′ (left-of l c l′ e′)))
+
+    upscales : (b s l : ℕ) (p : Placement) → Within s l p → Keeps (bounded h Found.ciphertext (pos (s + b)) (pos l)) (goes (Best.ciphertext p))
+    upscales b s l p w = spends p (pos (s + b)) (pos l) s l w (λ s′ l′ e e′. omega (arith, pos-is e, ap (λ (k : ℕ). h .factor * k) (pos-is e′)))
+
+    encodes : (s e : ℕ) (x : Found) (y : Best) (z : Unit {0}) → Bound x y z → Keeps (Refused.onBare (bounded h Found.encoded (pos s) (pos e)) x) (goes y)
+    encodes s e Found.bare Best.constant z r = bounded-elim h W⁺ (λ u. Keeps u (goes Best.constant)) Found.encoded (pos s) (pos e) (λ n. tt) (λ s′ l′ p q b. b)
+    encodes s e Found.bare (Best.ciphertext p) z r = absurd r
+    encodes s e (Found.encoded s′ l′) y z r = tt
+    encodes s e (Found.ciphertext s′ l′) y z r = tt
+
+    again : (s l : ℕ) (p : Placement) → Within s l p → Keeps (bounded h Found.ciphertext (pos s) (pos l)) (placed h (placeAt h (p .reserve)))
+    again s l p w = unchanged p (placed h (placeAt h (p .reserve))) s l (λ b. reaches s l (placeAt h (p .reserve)) b (w .at-most))
+
+    pub reserves-kept : Kept (checkMachine h) (through (bestMachine h)) idle Bound
+    reserves-kept =
+        record {
+          input = λ k. unchanged (placeInput h) (placed h (placeInput h)) (h .waterline) (h .top) (λ b. reaches (h .waterline) (h .top) (placeInput h) b (omega signed));
+          constant = λ k. tt;
+          neg = on-ciphertext _ (Plan.onCiphertext (λ p. placed h (placeAt h (p .reserve)))) again;
+          rot = λ t. on-ciphertext _ (Plan.onCiphertext (λ p. placed h (placeAt h (p .reserve)))) again;
+          add = on-pair (sum h) (λ r r′. placed h (placeAt h (smaller r r′))) (λ r. placed h (placeAt h r)) (λ r. placed h (placeAt h r)) add-both add-left add-right;
+          mul = on-pair (product h) (λ r r′. placed h (placeProduct h r r′)) (λ r. placed h (placeTimesConstant h r)) (λ r. placed h (placeConstantTimes h r)) mul-both mul-left mul-right;
+          out = on-ciphertext _ (Plan.onCiphertext (λ p. goes (Best.ciphertext p))) (λ s l p w. unchanged p (goes (Best.ciphertext p)) s l (λ b. w));
+          enc = encodes;
+          rs = λ c. on-ciphertext _ goes (rescales c);
+          ms = λ c. on-ciphertext _ goes (switches c);
+          us = λ b. on-ciphertext _ goes (upscales b);
+        }
+
+    -- what a schedule that passes the check says of its circuit
+    pub record Bests (s : List Line) (found : List Found) : Type 0 where
+      pub best : List Best
+      pub runs : run (bestMachine h) (erase s) ≡ finished best
+      pub bound : (i o : ℕ) (f : Found) → getElem? found i ≡ some f → getElem? (origins s) i ≡ some o → Beside (λ x y. Bound x y tt) f best o
+
+    pub reserve-bound : (s : List Line) {found : List Found} → run (checkMachine h) s ≡ finished found → Bests s found
+    reserve-bound s {found} e =
+        record {
+          best = E .held;
+          runs = E .runs;
+          bound = λ i o f p q.
+              let b = beside pairs i p in
+              let c = beside (E .from-circuit) i q in
+              record { other = b .other; there = c .related ∙ (sym (c .there) ∙ b .there); related = b .related };
+        }
+      where
+        K : Finished Bound found (run (through (bestMachine h)) s) (run idle s)
+        K = finish Bound (run (checkMachine h) s) (run (through (bestMachine h)) s) (run idle s) e (run-kept (checkMachine h) (through (bestMachine h)) idle Bound reserves-kept s 0 nil3)
+
+        E : Erased (bestMachine h) (run (bestMachine h) (erase s)) (origins s) (K .second)
+        E = erased (bestMachine h) s (K .second-is)
+
+        pairs : All2 (λ x y. Bound x y tt) found (K .second)
+        pairs = front2 (λ x y z r. r) (K .related)

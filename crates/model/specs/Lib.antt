@@ -1,0 +1,12 @@
+-- Document 01 as definitions, in its order: a file for each of its sections, with the section on the rules in three (Machine, Rules,
+-- Machines), and the demands' own terms in Demands.
+pub mod Scales
+pub mod Files
+pub mod Machine
+pub mod Rules
+pub mod Machines
+pub mod Plan
+pub mod Services
+pub mod Refused
+pub mod Demands
+pub mod Worked

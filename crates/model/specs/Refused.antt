@@ -1,0 +1,147 @@
+-- Document 01, "Refused, by who can cause it": an answer's numbers, and the check of a schedule with 12, and 7, 8, 10, 9 in turn.
+use Prim.Native.Nat.{ℕ, zero, suc, _+_, _*_}
+use mathlib.Core.Bool.{Bool, true, false, cond, _&&_}
+use mathlib.Core.List.{List, [], _∷_}
+use lib.Dec.{leb, eqb}
+use lib.IntN.{ℤ, pos, _+ℤ_, _-ℤ_, _*ℤ_}
+use lib.Signed.{leZ}
+use Rattle.ints.specs.Parts.{positive, negative}
+use Rattle.model.specs.declared.Header.{Header}
+use Rattle.model.specs.declared.Line.{Line}
+use Rattle.model.specs.declared.Line.the-variants.{In, Const, Neg, Rot, Add, Mul, Out, Enc, Rs, Ms, Us, Free}
+use Rattle.model.specs.declared.Answer.{Answer}
+use Rattle.model.specs.declared.Answer.the-variants.{Done, Level, Refused}
+use Rattle.model.specs.Scales.{floor}
+use Rattle.model.specs.Files.{placeOf, File}
+use Rattle.model.specs.Machine.{Step, goes, stops, Machine, Run, finished, stopped, run}
+use Rattle.model.specs.Services.{erase}
+
+-- "A refusal is its number and place, and in a call with several files also which of them, counted from 1 in the order read, 0 with place
+-- 0 (12: the circuit)". All three are 0 where nothing is refused.
+abbrev pub answerNumber : Answer → ℕ
+answerNumber Done = 0
+answerNumber (Level l) = 0
+answerNumber (Refused n p) = n
+
+abbrev pub answerPlace : Answer → ℕ
+answerPlace Done = 0
+answerPlace (Level l) = 0
+answerPlace (Refused n p) = p
+
+-- file: the file that the service refuses by its lines, 1 in planning and least level, 2 in a check
+abbrev pub answerFile : ℕ → Answer → ℕ
+answerFile file Done = 0
+answerFile file (Level l) = 0
+answerFile file (Refused n p) = cond (eqb p 0) 0 (cond (eqb n 12) 1 file)
+
+-- the level, where one was asked for
+abbrev pub answerLevel : Answer → ℕ
+answerLevel Done = 0
+answerLevel (Level l) = l
+answerLevel (Refused n p) = 0
+
+-- What the check finds of a line: a bare constant, or a scale and a level.
+pub data Found : Type 0 where
+  bare : Found
+  encoded : ℕ → ℕ → Found
+  ciphertext : ℕ → ℕ → Found
+
+-- "10 scale below W. 9 scale above F·level.", in this order. "A `rs` or `ms` past zero counts as a negative result."
+abbrev pub bounded : Header → (ℕ → ℕ → Found) → ℤ → ℤ → Step Found ℕ
+bounded h found s l =
+    cond (leZ (pos (h .waterline)) s)
+    (cond (leZ (s +ℤ pos (floor h)) (pos (h .factor) *ℤ l)) (goes (found (positive s) (positive l))) (stops 9))
+    (stops 10)
+
+-- "5 operand of the wrong kind": a well-formed schedule has none.
+abbrev pub onBare : Step Found ℕ → Found → Step Found ℕ
+onBare r bare = r
+onBare r (encoded s l) = stops 5
+onBare r (ciphertext s l) = stops 5
+
+abbrev pub onCiphertext : (ℕ → ℕ → Step Found ℕ) → Found → Step Found ℕ
+onCiphertext f bare = stops 5
+onCiphertext f (encoded s l) = stops 5
+onCiphertext f (ciphertext s l) = f s l
+
+-- two ciphertexts, or one and an encoded constant, in either place
+abbrev pub onPair : (ℕ → ℕ → ℕ → ℕ → Step Found ℕ) → Found → Found → Step Found ℕ
+onPair f bare y = stops 5
+onPair f (encoded s l) y = onCiphertext (f s l) y
+onPair f (ciphertext s l) bare = stops 5
+onPair f (ciphertext s l) (encoded s′ l′) = f s l s′ l′
+onPair f (ciphertext s l) (ciphertext s′ l′) = f s l s′ l′
+
+-- "7 levels differ. 8 scales differ in `add`."
+abbrev pub sum : Header → ℕ → ℕ → ℕ → ℕ → Step Found ℕ
+sum h s l s′ l′ =
+    cond (eqb l l′) (cond (eqb s s′) (bounded h ciphertext (pos s) (pos l)) (stops 8)) (stops 7)
+
+abbrev pub product : Header → ℕ → ℕ → ℕ → ℕ → Step Found ℕ
+product h s l s′ l′ = cond (eqb l l′) (bounded h ciphertext (pos (s + s′)) (pos l)) (stops 7)
+
+-- "per line 7, 8, 10, 9"
+abbrev pub checkMachine : Header → Machine Found ℕ
+checkMachine h =
+    record {
+      absent = 4;
+      input = λ k. bounded h ciphertext (pos (h .waterline)) (pos (h .top));
+      constant = λ k. goes bare;
+      neg = λ x. onCiphertext (λ s l. bounded h ciphertext (pos s) (pos l)) x;
+      rot = λ x t. onCiphertext (λ s l. bounded h ciphertext (pos s) (pos l)) x;
+      add = λ x y. onPair (sum h) x y;
+      mul = λ x y. onPair (product h) x y;
+      out = λ x. onCiphertext (λ s l. bounded h ciphertext (pos s) (pos l)) x;
+      enc = λ x s e. onBare (bounded h encoded (pos s) (pos e)) x;
+      rs = λ x c. onCiphertext (λ s l. bounded h ciphertext (pos s -ℤ pos (h .factor * c)) (pos l -ℤ pos c)) x;
+      ms = λ x c. onCiphertext (λ s l. bounded h ciphertext (pos s) (pos l -ℤ pos c)) x;
+      us = λ x b. onCiphertext (λ s l. bounded h ciphertext (pos (s + b)) (pos l)) x;
+    }
+
+-- The first line that breaks a rule, and which.
+abbrev pub rulesAnswer : Header → List Line → Answer
+rulesAnswer h schedule =
+    elim (run (checkMachine h) schedule) [ finished found ↦ Done | stopped i n ↦ Refused n (placeOf i) ]
+
+-- A line as numbers: its word's, then its fields'.
+abbrev pub codeOf : Line → List ℕ
+codeOf In = 0 ∷ []
+codeOf (Const k) = 1 ∷ k ∷ []
+codeOf (Neg a) = 2 ∷ a ∷ []
+codeOf (Rot a t) = 3 ∷ a ∷ positive t ∷ negative t ∷ []
+codeOf (Add a b) = 4 ∷ a ∷ b ∷ []
+codeOf (Mul a b) = 5 ∷ a ∷ b ∷ []
+codeOf (Out a) = 6 ∷ a ∷ []
+codeOf (Enc a s e) = 7 ∷ a ∷ s ∷ e ∷ []
+codeOf (Rs a c) = 8 ∷ a ∷ c ∷ []
+codeOf (Ms a c) = 9 ∷ a ∷ c ∷ []
+codeOf (Us a b) = 10 ∷ a ∷ b ∷ []
+codeOf Free = 11 ∷ []
+
+abbrev pub sameNumbers : List ℕ → List ℕ → Bool
+sameNumbers [] [] = true
+sameNumbers [] (n ∷ ns) = false
+sameNumbers (m ∷ ms) [] = false
+sameNumbers (m ∷ ms) (n ∷ ns) = eqb m n && sameNumbers ms ns
+
+abbrev pub sameLine : Line → Line → Bool
+sameLine x y = sameNumbers (codeOf x) (codeOf y)
+
+abbrev pub sameHeader : Header → Header → Bool
+sameHeader h k =
+    eqb (h .factor) (k .factor) && (eqb (h .waterline) (k .waterline) && eqb (h .top) (k .top))
+
+-- "12 erases to another circuit; place of the first circuit line that differs, or one past the shorter file." n: the value number of
+-- the first lines here.
+abbrev pub compared : ℕ → List Line → List Line → Answer → Answer
+compared n [] [] otherwise = otherwise
+compared n [] (y ∷ ys) otherwise = Refused 12 (placeOf n)
+compared n (x ∷ xs) [] otherwise = Refused 12 (placeOf n)
+compared n (x ∷ xs) (y ∷ ys) otherwise = cond (sameLine x y) (compared (suc n) xs ys otherwise) (Refused 12 (placeOf n))
+
+-- "or 12, then per line 7, 8, 10, 9". The header is the first line of both.
+abbrev pub check : File → File → Answer
+check circuit schedule =
+    cond (sameHeader (circuit .header) (schedule .header))
+    (compared 0 (circuit .lines) (erase (schedule .lines)) (rulesAnswer (schedule .header) (schedule .lines)))
+    (Refused 12 1)

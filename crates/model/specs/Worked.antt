@@ -1,0 +1,166 @@
+-- Document 01, "Worked with F = 60, W = 20": its cases with * as rows of one table, and rows of our own where marked. A row is a question,
+-- its input and the outcome.
+use Prim.Native.Nat.{ℕ}
+use mathlib.Core.Bool.{Bool, true, false, _&&_}
+use mathlib.Core.List.{List, [], _∷_, map}
+use mathlib.Core.Option.{Option, none, some}
+use lib.ListN.{getD, getElem?}
+use Rattle.model.specs.declared.Header.{Header}
+use Rattle.model.specs.declared.Line.{Line}
+use Rattle.model.specs.declared.Line.the-variants.{In, Const, Mul, Out, Enc, Rs, Us}
+use Rattle.model.specs.declared.Grammar.{Grammar}
+use Rattle.model.specs.declared.Grammar.the-variants.{Circuit, Schedule}
+use Rattle.model.specs.declared.Answer.{Answer}
+use Rattle.model.specs.declared.Answer.the-variants.{Done, Level, Refused}
+use Rattle.model.specs.Files.{File, placeOf, wellFormed}
+use Rattle.model.specs.Machine.{Run, finished, stopped, run}
+use Rattle.model.specs.Services.{Planned, written, refused, plan, keptLines, leastLevel}
+use Rattle.model.specs.Refused.{Found, bare, encoded, ciphertext, checkMachine, check, codeOf, sameNumbers}
+
+-- Plan the circuit; give its least top level; check the schedule against a circuit with these lines, under the same header; scale and level
+-- of a value of the schedule under the rules; scale and level of a circuit's value in its plan.
+pub data Question : Type 0 where
+  planned : Question
+  least : Question
+  checked : List Line → Question
+  scaleOf : ℕ → Question
+  scaleInPlan : ℕ → Question
+
+pub data Outcome : Type 0 where
+  answer : Answer → Outcome
+  schedule : File → Outcome
+  scaleAndLevel : ℕ → ℕ → Outcome
+  unscaled : Outcome
+
+pub record Row : Type 0 where
+  pub input : File
+  pub question : Question
+  pub outcome : Outcome
+
+-- the file that a question is about
+abbrev pub grammarOf : Question → Grammar
+grammarOf planned = Circuit
+grammarOf least = Circuit
+grammarOf (checked circuit) = Schedule
+grammarOf (scaleOf v) = Schedule
+grammarOf (scaleInPlan v) = Circuit
+
+abbrev pub foundAt : Option Found → Outcome
+foundAt none = unscaled
+foundAt (some bare) = unscaled
+foundAt (some (encoded s l)) = scaleAndLevel s l
+foundAt (some (ciphertext s l)) = scaleAndLevel s l
+
+abbrev pub scaleUnderRules : File → ℕ → Outcome
+scaleUnderRules file v =
+    elim (run (checkMachine (file .header)) (file .lines)) [ finished found ↦ foundAt (getElem? found v) | stopped i n ↦ answer (Refused n (placeOf i)) ]
+
+abbrev pub planOutcome : Planned → Outcome
+planOutcome (written file) = schedule file
+planOutcome (refused n p) = answer (Refused n p)
+
+abbrev pub planScale : ℕ → Planned → Outcome
+planScale v (written file) = scaleUnderRules file (getD (keptLines (file .lines)) v 0)
+planScale v (refused n p) = answer (Refused n p)
+
+abbrev pub outcomeOf : Question → File → Outcome
+outcomeOf planned file = planOutcome (plan file)
+outcomeOf least file = answer (leastLevel file)
+outcomeOf (checked circuit) file = answer (check (record { header = file .header; lines = circuit }) file)
+outcomeOf (scaleOf v) file = scaleUnderRules file v
+outcomeOf (scaleInPlan v) file = planScale v (plan file)
+
+-- An outcome as lists of numbers, so that two can be compared.
+abbrev pub headerCode : Header → List ℕ
+headerCode h = h .factor ∷ h .waterline ∷ h .top ∷ []
+
+abbrev pub outcomeCode : Outcome → List (List ℕ)
+outcomeCode (answer Done) = (0 ∷ []) ∷ []
+outcomeCode (answer (Level l)) = (1 ∷ l ∷ []) ∷ []
+outcomeCode (answer (Refused n p)) = (2 ∷ n ∷ p ∷ []) ∷ []
+outcomeCode (schedule file) = (3 ∷ []) ∷ headerCode (file .header) ∷ map codeOf (file .lines)
+outcomeCode (scaleAndLevel s l) = (4 ∷ s ∷ l ∷ []) ∷ []
+outcomeCode unscaled = (5 ∷ []) ∷ []
+
+abbrev pub sameLists : List (List ℕ) → List (List ℕ) → Bool
+sameLists [] [] = true
+sameLists [] (n ∷ ns) = false
+sameLists (m ∷ ms) [] = false
+sameLists (m ∷ ms) (n ∷ ns) = sameNumbers m n && sameLists ms ns
+
+-- the input is a file of the question's grammar, and the outcome is the row's
+abbrev pub rowHolds : Row → Bool
+rowHolds r =
+    wellFormed (grammarOf (r .question)) (r .input .header) (r .input .lines)
+    && sameLists (outcomeCode (outcomeOf (r .question) (r .input))) (outcomeCode (r .outcome))
+
+abbrev pub allHold : List Row → Bool
+allHold [] = true
+allHold (r ∷ rs) = rowHolds r && allHold rs
+
+-- F = 60, W = 20
+abbrev pub at : ℕ → List Line → File
+at l lines = record { header = record { factor = 60; waterline = 20; top = l }; lines = lines }
+
+-- F = 59, W = 60
+abbrev pub narrow : ℕ → List Line → File
+narrow l lines = record { header = record { factor = 59; waterline = 60; top = l }; lines = lines }
+
+-- x to the power 2, 4, 8, 16 by squarings
+abbrev pub square : List Line
+square = In ∷ Mul 0 0 ∷ []
+
+abbrev pub fourth : List Line
+fourth = In ∷ Mul 0 0 ∷ Mul 1 1 ∷ []
+
+abbrev pub eighth : List Line
+eighth = In ∷ Mul 0 0 ∷ Mul 1 1 ∷ Mul 2 2 ∷ []
+
+abbrev pub sixteenth : List Line
+sixteenth = In ∷ Mul 0 0 ∷ Mul 1 1 ∷ Mul 2 2 ∷ Mul 3 3 ∷ []
+
+-- "circuit 60 20 2 / in / const 7 / mul 0 1 / mul 2 1 / mul 3 3 / out 4" and what the program writes for it
+abbrev pub listing : List Line
+listing = In ∷ Const 7 ∷ Mul 0 1 ∷ Mul 2 1 ∷ Mul 3 3 ∷ Out 4 ∷ []
+
+abbrev pub listingPlan : List Line
+listingPlan = In ∷ Const 7 ∷ Enc 1 20 2 ∷ Mul 0 2 ∷ Enc 1 20 2 ∷ Mul 3 4 ∷ Us 5 20 ∷ Rs 6 1 ∷ Us 5 20 ∷ Rs 8 1 ∷ Mul 7 9 ∷ Out 10 ∷ []
+
+-- The same circuit scheduled by hand, with the common conversions written once.
+abbrev pub listingByHand : List Line
+listingByHand = In ∷ Const 7 ∷ Enc 1 20 2 ∷ Mul 0 2 ∷ Mul 3 2 ∷ Us 4 20 ∷ Rs 5 1 ∷ Mul 6 6 ∷ Out 7 ∷ []
+
+abbrev pub row : File → Question → Outcome → Row
+row file q o = record { input = file; question = q; outcome = o }
+
+abbrev pub table : List Row
+table =
+    -- "Header only: header only back; least level 1."
+    row (at 1 []) planned (schedule (at 1 []))
+    ∷ row (at 1 []) least (answer (Level 1))
+    -- "x² at L = 1: scale 40, level 1. x⁴ by two squarings, L = 1: 6 at place 4."
+    ∷ row (at 1 square) (scaleInPlan 1) (scaleAndLevel 40 1)
+    ∷ row (at 1 fourth) planned (answer (Refused 6 4))
+    -- "x⁸ at L = 2: last product scale 40, level 1. x¹⁶ at L = 2: 6 at place 6; least 3."
+    ∷ row (at 2 eighth) (scaleInPlan 3) (scaleAndLevel 40 1)
+    ∷ row (at 2 sixteenth) planned (answer (Refused 6 6))
+    ∷ row (at 2 sixteenth) least (answer (Level 3))
+    -- "`rs` by 1 at scale 80 gives 20; at 79 refused 10."
+    ∷ row (at 2 (In ∷ Us 0 60 ∷ Rs 1 1 ∷ [])) (scaleOf 1) (scaleAndLevel 80 2)
+    ∷ row (at 2 (In ∷ Us 0 60 ∷ Rs 1 1 ∷ [])) (scaleOf 2) (scaleAndLevel 20 1)
+    ∷ row (at 2 (In ∷ Us 0 59 ∷ Rs 1 1 ∷ [])) (checked (In ∷ [])) (answer (Refused 10 4))
+    -- "`mul` of scales 20 and 40 at level 1 passes; 20 and 41: 9."
+    ∷ row (at 1 (In ∷ Us 0 20 ∷ Mul 0 1 ∷ [])) (checked square) (answer Done)
+    ∷ row (at 1 (In ∷ Us 0 21 ∷ Mul 0 1 ∷ [])) (checked square) (answer (Refused 9 4))
+    -- "One `in`, F = 59, W = 60: L = 1 gives 6 at place 2, L = 2 passes."
+    ∷ row (narrow 1 (In ∷ [])) planned (answer (Refused 6 2))
+    ∷ row (narrow 2 (In ∷ [])) planned (schedule (narrow 2 (In ∷ [])))
+    ∷ row (narrow 2 (In ∷ [])) (checked (In ∷ [])) (answer Done)
+    -- the program's listing
+    ∷ row (at 2 listing) planned (schedule (at 2 listingPlan))
+    -- our own: the plan passes, a schedule that is not the plan passes, and against another circuit neither does
+    ∷ row (at 2 listingPlan) (checked listing) (answer Done)
+    ∷ row (at 2 listingByHand) (checked listing) (answer Done)
+    ∷ row (at 2 listingByHand) (checked square) (answer (Refused 12 3))
+    ∷ row (at 2 listingByHand) (checked (In ∷ Const 7 ∷ Mul 0 1 ∷ Mul 2 1 ∷ Mul 3 3 ∷ [])) (answer (Refused 12 7))
+    ∷ []

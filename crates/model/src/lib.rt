@@ -1,0 +1,57 @@
+// The types that document 01's definitions and the code share. What they mean stands in specs/.
+
+// "F is the rescale factor, W the waterline, L the top level": one value wherever the three are used.
+pub struct Header {
+    pub factor: u32,
+    pub waterline: u32,
+    pub top: u32,
+}
+
+// A line by its word; operands are value numbers. Free is no line: a record that holds none.
+pub enum Line {
+    In,
+    Const(u32),
+    Neg(u32),
+    Rot(u32, i32),
+    Add(u32, u32),
+    Mul(u32, u32),
+    Out(u32),
+    Enc { of: u32, scale: u32, level: u32 },
+    Rs(u32, u32),
+    Ms(u32, u32),
+    Us(u32, u32),
+    Free,
+}
+
+// One record of a table.
+pub struct Record {
+    pub line: Line,
+}
+
+// A file that was read: its header, and its lines in the first `count` records. The rest are free.
+pub struct Table {
+    pub header: Header,
+    pub lines: [Record; 1792],
+    pub count: usize,
+}
+
+// The two files of document 01.
+pub enum Grammar {
+    Circuit,
+    Schedule,
+}
+
+// What a value can be used as. An `out` line and a free record are Nothing.
+pub enum Kind {
+    Ciphertext,
+    Constant,
+    Encoded,
+    Nothing,
+}
+
+// A service's answer on tables that were read: done, a least top level, or a refusal.
+pub enum Answer {
+    Done,
+    Level(u32),
+    Refused { number: u32, place: u32 },
+}
