@@ -35,24 +35,24 @@ pub numbers-same : (ns : List ℕ) → T (sameNumbers ns ns)
 numbers-same [] = tt
 numbers-same (n ∷ ns) = and-both (eqb n n) (sameNumbers ns ns) (eqb-refl n) (numbers-same ns)
 
-rejoined : ℕ → ℕ → ℤ
+unfoldable pub rejoined : ℕ → ℕ → ℤ
 rejoined p zero = pos p
 rejoined p (suc n) = negsuc n
 
 -- the line with that code
-lineOf : List ℕ → Line
+unfoldable pub lineOf : List ℕ → Line
 lineOf code =
     let a = getD code 1 0 in
     let b = getD code 2 0 in
     let c = getD code 3 0 in
     getD (In ∷ Const a ∷ Neg a ∷ Rot a (rejoined b c) ∷ Add a b ∷ Mul a b ∷ Out a ∷ Enc a b c ∷ Rs a b ∷ Ms a b ∷ Us a b ∷ []) (getD code 0 11) Free
 
-rejoined-parts : (t : ℤ) → rejoined (positive t) (negative t) ≡ t
+pub rejoined-parts : (t : ℤ) → rejoined (positive t) (negative t) ≡ t
 unfolding rejoined
 rejoined-parts (pos n) = refl
 rejoined-parts (negsuc n) = refl
 
-lineOf-code : (x : Line) → lineOf (codeOf x) ≡ x
+pub lineOf-code : (x : Line) → lineOf (codeOf x) ≡ x
 unfolding lineOf
 lineOf-code In = refl
 lineOf-code (Const k) = refl

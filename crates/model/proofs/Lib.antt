@@ -10,6 +10,11 @@ pub mod Bounded
 pub mod Placed
 pub mod Reserves
 pub mod Higher
+pub mod Outcomes
+pub mod Formed
+pub mod Checked
+pub mod Reason
+pub mod Compared
 pub mod Vectors
 pub mod KeptLines
 pub mod EachLine
@@ -17,11 +22,10 @@ pub mod Exactly
 pub mod Drafts
 pub mod Supplies
 pub mod Meets
-pub mod Outcomes
-pub mod Formed
-pub mod Checked
-pub mod Reason
-pub mod Compared
 pub mod Lines
 pub mod Planned
+pub mod Count
+pub mod Least
+pub mod Statements
+pub mod Theorems
 pub mod Worked

@@ -96,6 +96,10 @@ module _ {X Y : Type 0} where
   beside {R} (cons2 {x = z} {y = y} q t) zero e = record { other = y; there = refl; related = mathlib.Core.Path.subst (λ (w : X). R w y) (Option·some-injective z _ e) q }
   beside (cons2 q t) (suc i) e = let b = beside t i e in record { other = b .other; there = b .there; related = b .related }
 
+pub flip2 : {X Y : Type 0} {R : X → Y → Type 0} {f : List X} {g : List Y} → All2 R f g → All2 (λ y x. R x y) g f
+flip2 nil2 = nil2
+flip2 (cons2 q t) = cons2 q (flip2 t)
+
 module _ {X Y Z : Type 0} where
   pub data All3 (R : X → Y → Z → Type 0) : List X → List Y → List Z → Type 0 where
     nil3 : All3 R [] [] []

@@ -23,7 +23,7 @@ use Rattle.model.specs.Plan.{Placement, Best, lowestLevel, smaller, atWa
 use Rattle.model.specs.Services.{erase, origins}
 use Rattle.model.specs.Refused as Refused
 use Rattle.model.specs.Refused.{Found, bounded, onPair, sum, product, checkMachine}
-use Rattle.model.proofs.Lists.{nil3, front2, All2, Beside, beside}
+use Rattle.model.proofs.Lists.{nil3, front2, All2, beside, flip2}
 use Rattle.model.proofs.Kept.{Follows, Kept, run-kept, Finished, finish, idle}
 use Rattle.model.proofs.Erasing.{through, Holds, Erased, erased}
 use Rattle.model.proofs.Products.{by-test, below-smaller, smaller-mono, optimal}
@@ -205,21 +205,29 @@ module _ (h : Header) where
           us = λ b. on-ciphertext _ goes (upscales b);
         }
 
+    -- a line of which the check finds f, against its circuit line
+    pub record AtBest (s : List Line) (best : List Best) (i : ℕ) (f : Found) : Type 0 where
+      pub from : ℕ
+      pub value : Best
+      pub comes-from : getElem? (origins s) i ≡ some from
+      pub best-is : getElem? best from ≡ some value
+      pub bound : Bound f value tt
+
     -- what a schedule that passes the check says of its circuit
     pub record Bests (s : List Line) (found : List Found) : Type 0 where
       pub best : List Best
       pub runs : run (bestMachine h) (erase s) ≡ finished best
-      pub bound : (i o : ℕ) (f : Found) → getElem? found i ≡ some f → getElem? (origins s) i ≡ some o → Beside (λ x y. Bound x y tt) f best o
+      pub lines : (i : ℕ) (f : Found) → getElem? found i ≡ some f → AtBest s best i f
 
     pub reserve-bound : (s : List Line) {found : List Found} → run (checkMachine h) s ≡ finished found → Bests s found
     reserve-bound s {found} e =
         record {
           best = E .held;
           runs = E .runs;
-          bound = λ i o f p q.
+          lines = λ i f p.
               let b = beside pairs i p in
-              let c = beside (E .from-circuit) i q in
-              record { other = b .other; there = c .related ∙ (sym (c .there) ∙ b .there); related = b .related };
+              let c = beside (flip2 (E .from-circuit)) i (b .there) in
+              record { from = c .other; value = b .other; comes-from = c .there; best-is = c .related; bound = b .related };
         }
       where
         K : Finished Bound found (run (through (bestMachine h)) s) (run idle s)

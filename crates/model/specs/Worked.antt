@@ -1,36 +1,45 @@
 -- Document 01, "Worked with F = 60, W = 20": its cases with * as rows of one table, and rows of our own where marked. A row is a question,
--- its input and the outcome.
-use Prim.Native.Nat.{ℕ}
+-- its input and the outcome. A question is a service's verdict, a scale and a level, or what the scale machine comes to.
+use Prim.Native.Nat.{ℕ, _+_, _*_, _^_}
+use mathlib.Core.Path.{refl}
 use mathlib.Core.Bool.{Bool, true, false, _&&_}
 use mathlib.Core.List.{List, [], _∷_, map}
 use mathlib.Core.Option.{Option, none, some}
+use lib.Dec.{lit≤}
 use lib.ListN.{getD, getElem?}
+use lib.IntN.{ℤ, pos, negsuc, _-ℤ_, _*ℤ_}
+use Rattle.ints.specs.Parts.{positive, negative}
 use Rattle.model.specs.declared.Header.{Header}
 use Rattle.model.specs.declared.Line.{Line}
-use Rattle.model.specs.declared.Line.the-variants.{In, Const, Mul, Out, Enc, Rs, Us}
+use Rattle.model.specs.declared.Line.the-variants.{In, Const, Neg, Rot, Add, Mul, Out, Enc, Rs, Ms, Us}
 use Rattle.model.specs.declared.Grammar.{Grammar}
 use Rattle.model.specs.declared.Grammar.the-variants.{Circuit, Schedule}
 use Rattle.model.specs.declared.Answer.{Answer}
 use Rattle.model.specs.declared.Answer.the-variants.{Done, Level, Refused}
 use Rattle.model.specs.Files.{File, placeOf, wellFormed}
 use Rattle.model.specs.Machine.{Run, finished, stopped, run}
+use Rattle.model.specs.Machines.{Vector, Handed, Holding, scaled, Reason, noLine, otherWord, otherKind, levelsDiffer, scalesDiffer, remainder, belowWaterline, aboveModulus, plainMachine, scaleMachine, timesTwoTo}
 use Rattle.model.specs.Services.{Planned, written, refused, plan, keptLines, leastLevel}
 use Rattle.model.specs.Refused.{Found, bare, encoded, ciphertext, checkMachine, check, codeOf, sameNumbers}
 
 -- Plan the circuit; give its least top level; check the schedule against a circuit with these lines, under the same header; scale and level
--- of a value of the schedule under the rules; scale and level of a circuit's value in its plan.
+-- of a value of the schedule under the rules; scale and level of a circuit's value in its plan; run the scale machine; run the plain machine.
 pub data Question : Type 0 where
   planned : Question
   least : Question
   checked : List Line → Question
   scaleOf : ℕ → Question
   scaleInPlan : ℕ → Question
+  runs : Question
+  runsPlain : Question
 
 pub data Outcome : Type 0 where
   answer : Answer → Outcome
   schedule : File → Outcome
   scaleAndLevel : ℕ → ℕ → Outcome
   unscaled : Outcome
+  ends : Run Holding Reason → Outcome
+  endsPlain : Run Vector Reason → Outcome
 
 pub record Row : Type 0 where
   pub input : File
@@ -44,6 +53,8 @@ grammarOf least = Circuit
 grammarOf (checked circuit) = Schedule
 grammarOf (scaleOf v) = Schedule
 grammarOf (scaleInPlan v) = Circuit
+grammarOf runs = Schedule
+grammarOf runsPlain = Circuit
 
 abbrev pub foundAt : Option Found → Outcome
 foundAt none = unscaled
@@ -63,16 +74,48 @@ abbrev pub planScale : ℕ → Planned → Outcome
 planScale v (written file) = scaleUnderRules file (getD (keptLines (file .lines)) v 0)
 planScale v (refused n p) = answer (Refused n p)
 
+-- What the machines are handed: three slots, input number k holding k + 1, k + 2 and k − 3, constant number k holding k, −1 and 2.
+abbrev pub handed : Handed
+handed =
+    record {
+      slots = 3;
+      at-least-one = lit≤ tt;
+      inputs = λ k. pos (k + 1) ∷ pos (k + 2) ∷ (pos k -ℤ pos 3) ∷ [];
+      constants = λ k. pos k ∷ negsuc 0 ∷ pos 2 ∷ [];
+      inputs-long = λ k. refl;
+      constants-long = λ k. refl;
+    }
+
 abbrev pub outcomeOf : Question → File → Outcome
 outcomeOf planned file = planOutcome (plan file)
 outcomeOf least file = answer (leastLevel file)
 outcomeOf (checked circuit) file = answer (check (record { header = file .header; lines = circuit }) file)
 outcomeOf (scaleOf v) file = scaleUnderRules file v
 outcomeOf (scaleInPlan v) file = planScale v (plan file)
+outcomeOf runs file = ends (run (scaleMachine handed (file .header)) (file .lines))
+outcomeOf runsPlain file = endsPlain (run (plainMachine handed) (file .lines))
 
 -- An outcome as lists of numbers, so that two can be compared.
 abbrev pub headerCode : Header → List ℕ
 headerCode h = h .factor ∷ h .waterline ∷ h .top ∷ []
+
+abbrev pub vectorCode : Vector → List ℕ
+vectorCode [] = []
+vectorCode (x ∷ v) = positive x ∷ negative x ∷ vectorCode v
+
+abbrev pub holdingCode : Holding → List ℕ
+holdingCode (Holding.bare v) = 0 ∷ vectorCode v
+holdingCode (scaled t l v) = 1 ∷ t ∷ l ∷ vectorCode v
+
+abbrev pub reasonCode : Reason → ℕ
+reasonCode noLine = 0
+reasonCode otherWord = 1
+reasonCode otherKind = 2
+reasonCode levelsDiffer = 3
+reasonCode scalesDiffer = 4
+reasonCode remainder = 5
+reasonCode belowWaterline = 6
+reasonCode aboveModulus = 7
 
 abbrev pub outcomeCode : Outcome → List (List ℕ)
 outcomeCode (answer Done) = (0 ∷ []) ∷ []
@@ -81,6 +124,10 @@ outcomeCode (answer (Refused n p)) = (2 ∷ n ∷ p ∷ []) ∷ []
 outcomeCode (schedule file) = (3 ∷ []) ∷ headerCode (file .header) ∷ map codeOf (file .lines)
 outcomeCode (scaleAndLevel s l) = (4 ∷ s ∷ l ∷ []) ∷ []
 outcomeCode unscaled = (5 ∷ []) ∷ []
+outcomeCode (ends (finished held)) = (6 ∷ []) ∷ map holdingCode held
+outcomeCode (ends (stopped i e)) = (7 ∷ i ∷ reasonCode e ∷ []) ∷ []
+outcomeCode (endsPlain (finished held)) = (8 ∷ []) ∷ map vectorCode held
+outcomeCode (endsPlain (stopped i e)) = (9 ∷ i ∷ reasonCode e ∷ []) ∷ []
 
 abbrev pub sameLists : List (List ℕ) → List (List ℕ) → Bool
 sameLists [] [] = true
@@ -133,6 +180,13 @@ listingByHand = In ∷ Const 7 ∷ Enc 1 20 2 ∷ Mul 0 2 ∷ Mul 3 2 ∷ Us 4 2
 abbrev pub row : File → Question → Outcome → Row
 row file q o = record { input = file; question = q; outcome = o }
 
+-- three slots, and the same times two to the k
+abbrev pub slots : ℤ → ℤ → ℤ → Vector
+slots a b c = a ∷ b ∷ c ∷ []
+
+abbrev pub held : ℕ → ℕ → ℤ → ℤ → ℤ → Holding
+held k l a b c = scaled k l (timesTwoTo k (slots a b c))
+
 abbrev pub table : List Row
 table =
     -- "Header only: header only back; least level 1."
@@ -163,4 +217,38 @@ table =
     ∷ row (at 2 listingByHand) (checked listing) (answer Done)
     ∷ row (at 2 listingByHand) (checked square) (answer (Refused 12 3))
     ∷ row (at 2 listingByHand) (checked (In ∷ Const 7 ∷ Mul 0 1 ∷ Mul 2 1 ∷ Mul 3 3 ∷ [])) (answer (Refused 12 7))
+    -- our own: the plain machine
+    ∷ row (at 2 (In ∷ Const 7 ∷ Neg 0 ∷ Rot 0 (pos 1) ∷ Rot 0 (negsuc 3) ∷ Add 0 1 ∷ Mul 0 0 ∷ In ∷ Out 6 ∷ [])) runsPlain
+    (endsPlain (finished (
+    slots (pos 1) (pos 2) (negsuc 2)
+    ∷ slots (pos 7) (negsuc 0) (pos 2)
+    ∷ slots (negsuc 0) (negsuc 1) (pos 3)
+    ∷ slots (pos 2) (negsuc 2) (pos 1)
+    ∷ slots (negsuc 2) (pos 1) (pos 2)
+    ∷ slots (pos 8) (pos 1) (negsuc 0)
+    ∷ slots (pos 1) (pos 4) (pos 9)
+    ∷ slots (pos 2) (pos 3) (negsuc 1)
+    ∷ slots (pos 1) (pos 4) (pos 9)
+    ∷ [])))
+    -- the scale machine to its end
+    ∷ row (at 2 (In ∷ Const 7 ∷ Enc 1 20 2 ∷ Mul 0 2 ∷ Us 3 40 ∷ Rs 4 1 ∷ Ms 3 1 ∷ Rot 5 (pos 1) ∷ Out 7 ∷ [])) runs
+    (ends (finished (
+    held 20 2 (pos 1) (pos 2) (negsuc 2)
+    ∷ Holding.bare (slots (pos 7) (negsuc 0) (pos 2))
+    ∷ held 20 2 (pos 7) (negsuc 0) (pos 2)
+    ∷ held 40 2 (pos 7) (negsuc 1) (negsuc 5)
+    ∷ held 80 2 (pos 7) (negsuc 1) (negsuc 5)
+    ∷ held 20 1 (pos 7) (negsuc 1) (negsuc 5)
+    ∷ held 40 1 (pos 7) (negsuc 1) (negsuc 5)
+    ∷ held 20 1 (negsuc 1) (negsuc 5) (pos 7)
+    ∷ held 20 1 (negsuc 1) (negsuc 5) (pos 7)
+    ∷ [])))
+    -- and each of its ways to stop
+    ∷ row (at 2 (In ∷ Ms 0 1 ∷ Add 0 1 ∷ [])) runs (ends (stopped 2 levelsDiffer))
+    ∷ row (at 2 (In ∷ Ms 0 1 ∷ Mul 0 1 ∷ [])) runs (ends (stopped 2 levelsDiffer))
+    ∷ row (at 2 (In ∷ Us 0 1 ∷ Add 0 1 ∷ [])) runs (ends (stopped 2 scalesDiffer))
+    ∷ row (at 2 (In ∷ Rs 0 1 ∷ [])) runs (ends (stopped 1 remainder))
+    ∷ row (at 2 (In ∷ Us 0 59 ∷ Rs 1 1 ∷ [])) runs (ends (stopped 2 belowWaterline))
+    ∷ row (at 1 (In ∷ Us 0 41 ∷ [])) runs (ends (stopped 1 aboveModulus))
+    ∷ row (at 1 (In ∷ Ms 0 1 ∷ [])) runs (ends (stopped 1 aboveModulus))
     ∷ []

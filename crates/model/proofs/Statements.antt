@@ -1,0 +1,10 @@
+-- The theorems' statements, each in a file of its own. They name only definitions of specs/ and of the libraries; Theorems has the proofs.
+pub mod LowestLevel
+pub mod Products
+pub mod Rules
+pub mod Exactness
+pub mod ReserveBound
+pub mod ThePlan
+pub mod TooFewLevels
+pub mod HigherLevels
+pub mod LeastLevel

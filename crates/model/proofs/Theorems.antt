@@ -1,0 +1,374 @@
+-- The theorems, each at its statement. Assumes nothing.
+use Prim.Native.Nat.{ℕ, zero, suc, _+_, _-_, _*_, _<_, _≤_}
+use native.Mathlib.Omega.{arith}
+use mathlib.Core.Path.{_≡_, refl, sym, ap, ap₂, _∙_, subst, subst₂}
+use mathlib.Core.Bool.{Bool, true, false, _&&_, _||_}
+use mathlib.Core.List.{List, [], _∷_, _++_}
+use mathlib.Core.Option.{Option, none, some, Option·some-injective}
+use lib.Dec.{T}
+use lib.ListN.{length, getD, getElem?}
+use lib.IntN.{ℤ, pos, _-ℤ_}
+use lib.Signed.{_≤ℤ_}
+use Rattle.ints.specs.Parts.{positive, negative}
+use Rattle.ints.proofs.Linear.{signed, is-positive, sub-is}
+use Rattle.model.specs.declared.Header.{Header}
+use Rattle.model.specs.declared.Line.{Line}
+use Rattle.model.specs.declared.Line.the-variants.{In, Const, Neg, Rot, Add, Mul, Out, Enc, Rs, Ms, Us, Free}
+use Rattle.model.specs.declared.Grammar.the-variants.{Circuit, Schedule}
+use Rattle.model.specs.declared.Kind.{Kind}
+use Rattle.model.specs.declared.Kind.the-variants.{Ciphertext}
+use Rattle.model.specs.declared.Answer.{Answer}
+use Rattle.model.specs.declared.Answer.the-variants.{Done, Level, Refused}
+use Rattle.model.specs.Scales.{withTop, headerInRange, reserve, modulus}
+use Rattle.model.specs.Files.{File, placeOf, wellFormed, kindOf, kindAt, isCiphertext, isEncoded, isUsable, lineFormed, linesFormed}
+use Rattle.model.specs.Machine.{Run, finished, stopped, run}
+use Rattle.model.specs.Rules.{KeepsRules}
+use Rattle.model.specs.Plan.{Placement, Best, bestMachine, placeProduct, planLines}
+use Rattle.model.specs.Services.{erase, eraseFile, origins, keptLines, Planned, written, refused, plan, leastLevel}
+use Rattle.model.specs.Refused as Refused
+use Rattle.model.specs.Refused.{Found, checkMachine, rulesAnswer}
+use Rattle.model.specs.Demands.{Passed, Schedulable, IsLeastLevel}
+use Rattle.model.proofs.Statements.LowestLevel as LowestLevel
+use Rattle.model.proofs.Statements.Products as ProductStatement
+use Rattle.model.proofs.Statements.Rules as RuleStatements
+use Rattle.model.proofs.Statements.Exactness as Exactness
+use Rattle.model.proofs.Statements.ReserveBound as ReserveBound
+use Rattle.model.proofs.Statements.ThePlan as ThePlan
+use Rattle.model.proofs.Statements.TooFewLevels as TooFewLevels
+use Rattle.model.proofs.Statements.HigherLevels as HigherLevels
+use Rattle.model.proofs.Statements.LeastLevel as LeastLevel
+use Rattle.model.proofs.Tests.{and-first, and-second, and-both, is-ciphertext, HeaderFacts, header-facts, header-passes, or-first}
+use Rattle.model.proofs.Lists.{found-at, found-is}
+use Rattle.model.proofs.Levels.{level-fits, level-least}
+use Rattle.model.proofs.Products.{Optimal, optimal}
+use Rattle.model.proofs.Reserves.{Within, Bound, AtBest, Bests, reserve-bound}
+use Rattle.model.proofs.Higher.{fits-higher}
+use Rattle.model.proofs.Formed.{well-header, well-lines, usable-below}
+use Rattle.model.proofs.Checked.{checked-keeps, keeps-checked, keeps-agrees, verdict, Agrees, foundKind, scaleOf, levelOf}
+use Rattle.model.proofs.Reason.{only-six, only-rules}
+use Rattle.model.proofs.Compared.{passes}
+use Rattle.model.proofs.Exactly.{exact}
+use Rattle.model.proofs.Drafts.{foundIn, Sound, Stands}
+use Rattle.model.proofs.Supplies.{Valid, scaleAt, ValidBest, foundFor}
+use Rattle.model.proofs.Lines.{Progress}
+use Rattle.model.proofs.Planned.{Whole, planned}
+use Rattle.model.proofs.Count.{plan-few}
+use Rattle.model.proofs.Least.{FitsAt, StopsAt, First, Never, Says, least-says}
+
+-- ---- the smaller statements
+pub lowest-level : LowestLevel.Statement
+lowest-level h t r =
+    let F⁺ = header-facts h t .factor .least in
+    record { enough = level-fits h F⁺ r; smallest = level-least h F⁺ r }
+
+pub products : ProductStatement.Statement
+products h t r r′ a b =
+    subst₂ (λ (x y : ℤ). ProductStatement.IsOptimum h x y (placeProduct h x y)) (sym (is-positive r a)) (sym (is-positive r′ b))
+    (let H = header-facts h t in
+    let o = optimal h (H .factor .least) (H .waterline .least) (positive r) (positive r′) in
+    record { attained = o .attained; greatest = o .greatest; lowest = o .lowest; first-is = o .first-is; second-is = o .second-is })
+
+pub rules : RuleStatements.VerdictStatement
+rules = verdict
+
+refused-run : {P : Type 0} (h : Header) (s : List Line) (n p : ℕ) → rulesAnswer h s ≡ Refused n p → ((i : ℕ) → run (checkMachine h) s ≡ stopped i n → P) → P
+refused-run {P} h s n p e k = go (run (checkMachine h) s) refl e
+  where
+    go : (r : Run Found ℕ) → run (checkMachine h) s ≡ r → elim r [ finished found ↦ Done | stopped i m ↦ Refused m (placeOf i) ] ≡ Refused n p → P
+    go (finished found) q f = absurd (let z : _≡_ {A = ℕ} 0 1 = cc in omega arith)
+    go (stopped i m) q f = k i (q ∙ ap (stopped i) (same f))
+      where
+        same : Refused m (placeOf i) ≡ Refused n p → m ≡ n
+        same g = cc
+
+pub rule-numbers : RuleStatements.NumbersStatement
+rule-numbers h s t n p e = refused-run h s n p e (λ i r. let w = only-rules h s t i n r in (w .least, w .most))
+
+pub checks : RuleStatements.CheckStatement
+checks = passes
+
+pub exactness : Exactness.Statement
+exactness circuit schedule p H =
+    let k = schedule .header in
+    let s = schedule .lines in
+    subst (λ (c : List Line). Rattle.model.specs.Demands.Exact H k c s) (λ i. p .erases i .lines)
+    (exact H k s (keeps-checked k s (p .schedule-formed) (p .keeps) .1))
+
+-- ---- the reserve bound
+-- the check's finding of a ciphertext has the numbers that keep the rules
+ciphertext-is : (h : Header) (scale level : ℕ → ℕ) (i : ℕ) (k : Kind) (f : Found) → k ≡ Ciphertext → Agrees h scale level i k f → f ≡ Found.ciphertext (scale i) (level i)
+ciphertext-is h scale level i k f e a = go f (a .kind ∙ e) (a .scale-is numbers) (a .level-is numbers)
+  where
+    numbers : T (isCiphertext k || isEncoded k)
+    numbers = subst (λ (j : Kind). T (isCiphertext j || isEncoded j)) (sym e) tt
+
+    go : (f : Found) → foundKind f ≡ Ciphertext → scaleOf f ≡ scale i → levelOf f ≡ level i → f ≡ Found.ciphertext (scale i) (level i)
+    go Found.bare p q r = absurd (let z : _≡_ {A = ℕ} 0 1 = cc in omega arith)
+    go (Found.encoded s l) p q r = absurd (let z : _≡_ {A = ℕ} 0 1 = cc in omega arith)
+    go (Found.ciphertext s l) p q r = ap₂ Found.ciphertext q r
+
+usable-ciphertext : (k : Kind) → k ≡ Ciphertext → T (isUsable k)
+usable-ciphertext k e = subst (λ (j : Kind). T (isUsable j)) (sym e) tt
+
+-- at a ciphertext line the check finds the numbers of every way to keep the rules
+found-numbers : (h : Header) (s : List Line) (t : T (wellFormed Schedule h s)) (K : KeepsRules h s) {found : List Found} → run (checkMachine h) s ≡ finished found
+    → (i : ℕ) → kindAt s i ≡ Ciphertext → getElem? found i ≡ some (Found.ciphertext (K .scale i) (K .level i))
+found-numbers h s t K {found} e i k =
+    let r = keeps-agrees h s t K in
+    let n = r .2 .named i (usable-ciphertext (kindAt s i) k) in
+    ap (λ (l : List Found). getElem? l i) (same (r .0) (sym e ∙ r .1)) ∙ n .there ∙ ap some (ciphertext-is h (K .scale) (K .level) i (kindAt s i) (n .value) k (n .fits))
+  where
+    same : (other : List Found) → _≡_ {A = Run Found ℕ} (finished found) (finished other) → found ≡ other
+    same other p = cc
+
+pub bound : ReserveBound.Statement
+bound h circuit s t K e =
+    record {
+      best = B .best;
+      runs = ap (run (bestMachine h)) (sym e) ∙ B .runs;
+      lines = λ i u c. at-most i (B .lines i _ (found-numbers h s t K (F .1) i (is-ciphertext (kindAt s i) c)));
+    }
+  where
+    H : HeaderFacts h
+    H = header-facts h (well-header Schedule h s t)
+
+    F : (found : List Found) × (run (checkMachine h) s ≡ finished found)
+    F = keeps-checked h s t K
+
+    B : Bests h (H .factor .least) (H .waterline .least) s (F .0)
+    B = reserve-bound h (H .factor .least) (H .waterline .least) s (F .1)
+
+    by-value : (i : ℕ) (b : Best) → Bound h (Found.ciphertext (K .scale i) (K .level i)) b tt → (from : ℕ) → getElem? (origins s) i ≡ some from → getElem? (B .best) from ≡ some b → ReserveBound.AtMostBest h s K (B .best) i
+    by-value i Best.constant w from p q = absurd w
+    by-value i (Best.ciphertext p) w from q r = record { from = from; placement = p; comes-from = q; best-is = r; at-most = w .at-most }
+
+    at-most : (i : ℕ) → AtBest h (H .factor .least) (H .waterline .least) s (B .best) i (Found.ciphertext (K .scale i) (K .level i)) → ReserveBound.AtMostBest h s K (B .best) i
+    at-most i a = by-value i (a .value) (a .bound) (a .from) (a .comes-from) (a .best-is)
+
+-- ---- the plan
+-- what planning gives, by the run of the best reserves
+plan-is : (circuit : File) (r : Run Best ℕ) → run (bestMachine (circuit .header)) (circuit .lines) ≡ r
+    → plan circuit ≡ elim r [ finished best ↦ written (record { header = circuit .header; lines = planLines (circuit .header) best (circuit .lines) }) | stopped i n ↦ refused n (placeOf i) ]
+plan-is circuit r e = ap (λ (q : Run Best ℕ). elim q as (λ x. Planned) [ finished best ↦ written (record { header = circuit .header; lines = planLines (circuit .header) best (circuit .lines) }) | stopped i n ↦ refused n (placeOf i) ]) e
+
+module _ (circuit : File) (t : T (wellFormed Circuit (circuit .header) (circuit .lines))) where
+  abbrev h : Header
+  h = circuit .header
+
+  H : HeaderFacts (circuit .header)
+  H = header-facts (circuit .header) (well-header Circuit (circuit .header) (circuit .lines) t)
+
+  module _ (best : List Best) (e : run (bestMachine (circuit .header)) (circuit .lines) ≡ finished best) where
+    abbrev s : List Line
+    s = planLines (circuit .header) best (circuit .lines)
+
+    whole : Whole h H (circuit .lines) best s
+    whole = planned h H (circuit .lines) (well-lines Circuit h (circuit .lines) t) e
+
+    P : Progress h H (circuit .lines) best (whole .numbers) s
+    P = whole .progress
+
+    formed : T (wellFormed Schedule h s)
+    formed = and-both (headerInRange h) (linesFormed Schedule h [] s) (well-header Circuit h (circuit .lines) t) (P .sound .formed)
+
+    keeps : KeepsRules h s
+    keeps = checked-keeps h s (well-header Circuit h (circuit .lines) t) (P .sound .checks)
+
+    pub plan-passed : Passed circuit (record { header = circuit .header; lines = s })
+    plan-passed = record { circuit-formed = t; schedule-formed = formed; keeps = keeps; erases = λ i. record { header = circuit .header; lines = P .sound .erases i } }
+
+    pub plan-schedulable : Schedulable h (circuit .lines)
+    plan-schedulable = record { schedule = s; formed = formed; keeps = keeps; erases = P .sound .erases }
+
+    -- the scale of a valid reserve leaves that reserve
+    scale-leaves : (r : ℤ) (l : ℕ) → Valid h H r l → reserve h (scaleAt h H r l) l ≡ r
+    scale-leaves r l v = sub-is (h .factor * l) (scaleAt h H r l) (omega arith) ∙ ap pos (omega (arith, v .fits)) ∙ sym (v .whole)
+
+    attains : (K : KeepsRules h s) (j : ℕ) → j < length (circuit .lines) → T (isCiphertext (kindOf (getD (circuit .lines) j Free)))
+        → ThePlan.AttainsBest (record { header = circuit .header; lines = s }) K best j
+    attains K j u c = by-value (getD best j Best.constant) (found-at best j Best.constant (omega (arith, P .long)))
+      where
+        x : Line
+        x = getD (circuit .lines) j Free
+
+        there : getElem? (circuit .lines) j ≡ some x
+        there = found-at (circuit .lines) j Free u
+
+        i : ℕ
+        i = getD (whole .numbers) j 0
+
+        kind : kindOf x ≡ Ciphertext
+        kind = is-ciphertext (kindOf x) c
+
+        by-value : (b : Best) → getElem? best j ≡ some b → ThePlan.AttainsBest (record { header = circuit .header; lines = s }) K best j
+        by-value Best.constant q = absurd (never (sym kind ∙ P .kinds j x Best.constant there q (usable-ciphertext (kindOf x) kind)))
+          where
+            never : _≡_ {A = Kind} Ciphertext Rattle.model.specs.declared.Kind.the-variants.Constant → ⊥
+            never p = let z : _≡_ {A = ℕ} 0 1 = cc in omega arith
+        by-value (Best.ciphertext p) q =
+            record {
+              line = i;
+              placement = p;
+              kept = ap (λ (l : List ℕ). getElem? l j) (P .sound .kept-are) ∙ found-at (whole .numbers) j 0 (omega (arith, P .counted));
+              best-is = q;
+              reserve-is = ap₂ (reserve h) (sym (numbers .0)) (sym (numbers .1)) ∙ scale-leaves (p .reserve) (p .level) (P .valid j (Best.ciphertext p) q);
+              level-is = sym (numbers .1);
+            }
+          where
+            S : Stands h s i (foundFor h H (Best.ciphertext p)) (kindOf x) j
+            S = P .entry j x (Best.ciphertext p) there q
+
+            line-kind : kindAt s i ≡ Ciphertext
+            line-kind = ap kindOf (found-is s i Free (S .there)) ∙ S .kind ∙ kind
+
+            both : _≡_ {A = Option Found} (some (Found.ciphertext (scaleAt h H (p .reserve) (p .level)) (p .level))) (some (Found.ciphertext (K .scale i) (K .level i)))
+            both = sym (S .found) ∙ found-numbers h s formed K (P .sound .checks) i line-kind
+
+            numbers : (scaleAt h H (p .reserve) (p .level) ≡ K .scale i) × (p .level ≡ K .level i)
+            numbers = (cc both, cc both)
+
+    right : ThePlan.IsRight circuit (record { header = circuit .header; lines = s })
+    right = record { passed = plan-passed; few = λ u. omega (arith, plan-few h best (circuit .lines)); best = best; runs = e; attains = attains }
+
+-- a refusal is no schedule
+refused-written : {P : Type 0} (n p : ℕ) (f : File) → _≡_ {A = Planned} (refused n p) (written f) → P
+refused-written n p f e = absurd (let z : _≡_ {A = ℕ} 0 1 = cc in omega arith)
+
+pub the-plan : ThePlan.Statement
+the-plan circuit t schedule e = go (run (bestMachine (circuit .header)) (circuit .lines)) refl
+  where
+    go : (r : Run Best ℕ) → run (bestMachine (circuit .header)) (circuit .lines) ≡ r → ThePlan.IsRight circuit schedule
+    go (finished best) q = subst (ThePlan.IsRight circuit) (same (sym (plan-is circuit (finished best) q) ∙ e)) (right circuit t best q)
+      where
+        same : written (record { header = circuit .header; lines = planLines (circuit .header) best (circuit .lines) }) ≡ written schedule → record { header = circuit .header; lines = planLines (circuit .header) best (circuit .lines) } ≡ schedule
+        same p = cc
+    go (stopped i n) q = refused-written n (placeOf i) schedule (sym (plan-is circuit (stopped i n) q) ∙ e)
+
+-- ---- too few levels
+-- a circuit with a schedule has a best reserve at every line
+schedulable-fits : (h : Header) (c : List Line) → Schedulable h c → (best : List Best) × (run (bestMachine h) c ≡ finished best)
+schedulable-fits h c S = let b = bound h c (S .schedule) (S .formed) (S .keeps) (S .erases) in (b .best, b .runs)
+
+finished-stopped : {P : Type 0} {r : Run Best ℕ} (best : List Best) (i n : ℕ) → r ≡ finished best → r ≡ stopped i n → P
+finished-stopped best i n e f = absurd (let z : _≡_ {A = ℕ} 0 1 = cc in omega arith)
+
+-- a run finishes or stops
+by-run : (r : Run Best ℕ) (P : Type 0) → ((best : List Best) → r ≡ finished best → P) → ((i n : ℕ) → r ≡ stopped i n → P) → P
+by-run (finished best) P f g = f best refl
+by-run (stopped i n) P f g = g i n refl
+
+pub too-few-levels : TooFewLevels.Statement
+too-few-levels circuit t =
+    record {
+      too-few-only = λ w S. let b = schedulable-fits h c S in refused-written 6 (w .place) _ (sym (w .says) ∙ plan-is circuit (finished (b .0)) (b .1));
+      too-few-if = λ f. by-run R (TooFewLevels.SaysTooFew circuit) (λ best e. absurd (f (plan-schedulable circuit t best e))) (λ i n e. says i n e (only-six h c t i n e));
+      writes-if = λ S. let b = schedulable-fits h c S in record { schedule = _; writes = plan-is circuit (finished (b .0)) (b .1) };
+      writes-only = λ w. by-run R (Schedulable h c) (λ best e. plan-schedulable circuit t best e) (λ i n e. refused-written n (placeOf i) (w .schedule) (sym (plan-is circuit (stopped i n) e) ∙ w .writes));
+      only-six = λ n p e. by-run R (n ≡ 6) (λ best f. refused-written n p _ (sym e ∙ plan-is circuit (finished best) f))
+          (λ i m f. number (sym e ∙ plan-is circuit (stopped i m) f) ∙ only-six h c t i m f);
+    }
+  where
+    h : Header
+    h = circuit .header
+
+    c : List Line
+    c = circuit .lines
+
+    R : Run Best ℕ
+    R = run (bestMachine (circuit .header)) (circuit .lines)
+
+    says : (i n : ℕ) → R ≡ stopped i n → n ≡ 6 → TooFewLevels.SaysTooFew circuit
+    says i n e s = record { place = placeOf i; says = plan-is circuit (stopped i n) e ∙ ap (λ (m : ℕ). refused m (placeOf i)) s }
+
+    number : {n p m q : ℕ} → refused n p ≡ refused m q → n ≡ m
+    number e = cc
+
+-- ---- other top levels
+-- a circuit's lines do not depend on the top level
+line-at-top : (h : Header) (l : ℕ) (before : List Line) (x : Line) → T (lineFormed Circuit h before x) → T (lineFormed Circuit (withTop h l) before x)
+line-at-top h l before In t = t
+line-at-top h l before (Const k) t = t
+line-at-top h l before (Neg a) t = t
+line-at-top h l before (Rot a r) t = t
+line-at-top h l before (Add a b) t = t
+line-at-top h l before (Mul a b) t = t
+line-at-top h l before (Out a) t = t
+line-at-top h l before (Enc a s e) t = absurd t
+line-at-top h l before (Rs a c) t = absurd t
+line-at-top h l before (Ms a c) t = absurd t
+line-at-top h l before (Us a b) t = absurd t
+line-at-top h l before Free t = absurd t
+
+lines-at-top : (h : Header) (l : ℕ) (xs before : List Line) → T (linesFormed Circuit h before xs) → T (linesFormed Circuit (withTop h l) before xs)
+lines-at-top h l [] before t = tt
+lines-at-top h l (x ∷ xs) before t =
+    and-both (lineFormed Circuit (withTop h l) before x) (linesFormed Circuit (withTop h l) (before ++ (x ∷ [])) xs)
+    (line-at-top h l before x (and-first (lineFormed Circuit h before x) (linesFormed Circuit h (before ++ (x ∷ [])) xs) t))
+    (lines-at-top h l xs (before ++ (x ∷ [])) (and-second (lineFormed Circuit h before x) (linesFormed Circuit h (before ++ (x ∷ [])) xs) t))
+
+formed-at-top : (h : Header) (c : List Line) → T (wellFormed Circuit h c) → (l : ℕ) → 1 ≤ l → l ≤ 60 → T (wellFormed Circuit (withTop h l) c)
+formed-at-top h c t l a b =
+    let H = header-facts h (well-header Circuit h c t) in
+    and-both (headerInRange (withTop h l)) (linesFormed Circuit (withTop h l) [] c) (header-passes (withTop h l) (record { factor = H .factor; waterline = H .waterline; top = record { least = a; most = b } }))
+    (lines-at-top h l c [] (well-lines Circuit h c t))
+
+at-top : (h : Header) (c : List Line) → ℕ → File
+at-top h c l = record { header = withTop h l; lines = c }
+
+fits-schedulable : (h : Header) (c : List Line) → T (wellFormed Circuit h c) → (l : ℕ) → 1 ≤ l → l ≤ 60 → (best : List Best) → run (bestMachine (withTop h l)) c ≡ finished best → Schedulable (withTop h l) c
+fits-schedulable h c t l a b best e = plan-schedulable (record { header = withTop h l; lines = c }) (formed-at-top h c t l a b) best e
+
+pub higher-levels : HigherLevels.Statement
+higher-levels h c t l u v S =
+    let H = header-facts h (well-header Circuit h c t) in
+    let b = schedulable-fits h c S in
+    let b′ = fits-higher h l u (H .factor .least) (H .waterline .least) c (b .1) in
+    fits-schedulable h c t l (omega (arith, H .top .least)) v (b′ .0) (b′ .1)
+
+-- ---- the least level
+pub least-level : LeastLevel.Statement
+least-level circuit t =
+    record {
+      level = λ l e. found l (subst (Says h c) e says);
+      too-few = λ n p e. none n p (subst (Says h c) e says);
+      too-few-if = λ f. by-answer f (leastLevel circuit) refl says;
+      replies = λ e. subst (Says h c) e says;
+    }
+  where
+    h : Header
+    h = circuit .header
+
+    c : List Line
+    c = circuit .lines
+
+    says : Says (circuit .header) (circuit .lines) (leastLevel circuit)
+    says = least-says circuit
+
+    sixty : T (wellFormed Circuit (withTop (circuit .header) 60) (circuit .lines))
+    sixty = formed-at-top (circuit .header) (circuit .lines) t 60 (omega arith) (omega arith)
+
+    stops-there : (k : ℕ) → StopsAt (circuit .header) (circuit .lines) k → Schedulable (withTop (circuit .header) k) (circuit .lines) → ⊥
+    stops-there k s S = let b = schedulable-fits (withTop (circuit .header) k) (circuit .lines) S in finished-stopped (b .0) (s .line) (s .number) (b .1) (s .runs)
+
+    found : (l : ℕ) → First (circuit .header) (circuit .lines) l → IsLeastLevel (circuit .header) (circuit .lines) l
+    found l f =
+        record {
+          low = f .low;
+          high = f .high;
+          fits = fits-schedulable (circuit .header) (circuit .lines) t l (f .low) (f .high) (f .fits .best) (f .fits .runs);
+          least = λ k a b. stops-there k (f .lower k a b);
+        }
+
+    none : (n p : ℕ) → Never (circuit .header) (circuit .lines) n p → LeastLevel.TooFewAtSixty circuit n p
+    none n p f =
+        record {
+          six = only-six (withTop (circuit .header) 60) (circuit .lines) sixty (f .line) n (f .runs);
+          no-schedule = stops-there 60 (record { line = f .line; number = n; runs = f .runs });
+          as-planned = plan-is (LeastLevel.atSixty circuit) (stopped (f .line) n) (f .runs) ∙ ap (refused n) (sym (f .place-is));
+        }
+
+    -- a level that fits would fit at 60
+    by-answer : (Schedulable (withTop (circuit .header) 60) (circuit .lines) → ⊥) → (a : Answer) → leastLevel circuit ≡ a → Says (circuit .header) (circuit .lines) a → LeastLevel.Refuses circuit
+    by-answer f Done e s = absurd s
+    by-answer f (Level l) e s = absurd (f (higher-levels (withTop (circuit .header) l) (circuit .lines) (formed-at-top (circuit .header) (circuit .lines) t l (s .low) (s .high)) 60 (s .high) (omega arith) (found l s .fits)))
+    by-answer f (Refused n p) e s = record { place = p; says = e ∙ ap (λ (m : ℕ). Refused m p) (none n p s .six) }
