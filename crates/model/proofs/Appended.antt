@@ -11,7 +11,7 @@ use Rattle.model.specs.declared.Line.{Line}
 use Rattle.model.specs.declared.Grammar.{Grammar}
 use Rattle.model.specs.Files.{lineFormed, linesFormed}
 use Rattle.model.specs.Machine.{Step, goes, stops, Run, finished, stopped, Machine, step, countIn, runFrom, run}
-use Rattle.model.specs.Services.{Fate, kept, madeFrom, fateOf, renamed, eraseFrom, originsFrom, keptFrom, erase, origins, keptLines}
+use Rattle.model.specs.Services.{Fate, kept, madeFrom, fateOf, renumbered, eraseFrom, originsFrom, keptFrom, erase, origins, keptLines}
 use Rattle.model.proofs.Lists.{length-snoc}
 use Rattle.model.proofs.Tests.{and-first, and-second, and-both}
 
@@ -56,11 +56,11 @@ module _ (fate : ℕ → Line → Fate) where
       go : (w : Fate)
           → eraseFrom fate (O ++ (n ∷ [])) (suc n) (xs ++ ys) ≡ eraseFrom fate (O ++ (n ∷ [])) (suc n) xs ++ eraseFrom fate (originsFrom fate (O ++ (n ∷ [])) (suc n) xs) (suc n + length (eraseFrom fate (O ++ (n ∷ [])) (suc n) xs)) ys
           → ((a : ℕ) → eraseFrom fate (O ++ (getD O a n ∷ [])) n (xs ++ ys) ≡ eraseFrom fate (O ++ (getD O a n ∷ [])) n xs ++ eraseFrom fate (originsFrom fate (O ++ (getD O a n ∷ [])) n xs) (n + length (eraseFrom fate (O ++ (getD O a n ∷ [])) n xs)) ys)
-          → (elim w [ kept ↦ renamed (λ a. getD O a n) x ∷ eraseFrom fate (O ++ (n ∷ [])) (suc n) (xs ++ ys) | madeFrom a ↦ eraseFrom fate (O ++ (getD O a n ∷ [])) n (xs ++ ys) ])
-          ≡ (elim w [ kept ↦ renamed (λ a. getD O a n) x ∷ eraseFrom fate (O ++ (n ∷ [])) (suc n) xs | madeFrom a ↦ eraseFrom fate (O ++ (getD O a n ∷ [])) n xs ])
+          → (elim w [ kept ↦ renumbered O n x ∷ eraseFrom fate (O ++ (n ∷ [])) (suc n) (xs ++ ys) | madeFrom a ↦ eraseFrom fate (O ++ (getD O a n ∷ [])) n (xs ++ ys) ])
+          ≡ (elim w [ kept ↦ renumbered O n x ∷ eraseFrom fate (O ++ (n ∷ [])) (suc n) xs | madeFrom a ↦ eraseFrom fate (O ++ (getD O a n ∷ [])) n xs ])
           ++ eraseFrom fate (elim w [ kept ↦ originsFrom fate (O ++ (n ∷ [])) (suc n) xs | madeFrom a ↦ originsFrom fate (O ++ (getD O a n ∷ [])) n xs ])
-          (n + length {A = Line} (elim w [ kept ↦ renamed (λ a. getD O a n) x ∷ eraseFrom fate (O ++ (n ∷ [])) (suc n) xs | madeFrom a ↦ eraseFrom fate (O ++ (getD O a n ∷ [])) n xs ])) ys
-      go kept p q = ap (λ (l : List Line). renamed (λ a. getD O a n) x ∷ l) (p ∙ ap (λ (m : ℕ). eraseFrom fate (O ++ (n ∷ [])) (suc n) xs ++ eraseFrom fate (originsFrom fate (O ++ (n ∷ [])) (suc n) xs) m ys) (omega arith))
+          (n + length {A = Line} (elim w [ kept ↦ renumbered O n x ∷ eraseFrom fate (O ++ (n ∷ [])) (suc n) xs | madeFrom a ↦ eraseFrom fate (O ++ (getD O a n ∷ [])) n xs ])) ys
+      go kept p q = ap (λ (l : List Line). renumbered O n x ∷ l) (p ∙ ap (λ (m : ℕ). eraseFrom fate (O ++ (n ∷ [])) (suc n) xs ++ eraseFrom fate (originsFrom fate (O ++ (n ∷ [])) (suc n) xs) m ys) (omega arith))
       go (madeFrom a) p q = q a
 
   pub origins-append : (xs : List Line) (O : List ℕ) (n : ℕ) (ys : List Line) → originsFrom fate O n (xs ++ ys) ≡ originsFrom fate (originsFrom fate O n xs) (n + length (eraseFrom fate O n xs)) ys
@@ -72,7 +72,7 @@ module _ (fate : ℕ → Line → Fate) where
           → ((a : ℕ) → originsFrom fate (O ++ (getD O a n ∷ [])) n (xs ++ ys) ≡ originsFrom fate (originsFrom fate (O ++ (getD O a n ∷ [])) n xs) (n + length (eraseFrom fate (O ++ (getD O a n ∷ [])) n xs)) ys)
           → (elim w [ kept ↦ originsFrom fate (O ++ (n ∷ [])) (suc n) (xs ++ ys) | madeFrom a ↦ originsFrom fate (O ++ (getD O a n ∷ [])) n (xs ++ ys) ])
           ≡ originsFrom fate (elim w [ kept ↦ originsFrom fate (O ++ (n ∷ [])) (suc n) xs | madeFrom a ↦ originsFrom fate (O ++ (getD O a n ∷ [])) n xs ])
-          (n + length {A = Line} (elim w [ kept ↦ renamed (λ a. getD O a n) x ∷ eraseFrom fate (O ++ (n ∷ [])) (suc n) xs | madeFrom a ↦ eraseFrom fate (O ++ (getD O a n ∷ [])) n xs ])) ys
+          (n + length {A = Line} (elim w [ kept ↦ renumbered O n x ∷ eraseFrom fate (O ++ (n ∷ [])) (suc n) xs | madeFrom a ↦ eraseFrom fate (O ++ (getD O a n ∷ [])) n xs ])) ys
       go kept p q = p ∙ ap (λ (m : ℕ). originsFrom fate (originsFrom fate (O ++ (n ∷ [])) (suc n) xs) m ys) (omega arith)
       go (madeFrom a) p q = q a
 
@@ -95,7 +95,7 @@ module _ (xs : List Line) (x : Line) where
   zero-plus n = omega arith
 
   abbrev erasing : ℕ → Fate → List Line
-  erasing n w = elim w [ kept ↦ renamed (λ a. getD (origins xs) a n) x ∷ [] | madeFrom a ↦ [] ]
+  erasing n w = elim w [ kept ↦ renumbered (origins xs) n x ∷ [] | madeFrom a ↦ [] ]
 
   abbrev tracing : ℕ → Fate → List ℕ
   tracing n w = elim w [ kept ↦ origins xs ++ (n ∷ []) | madeFrom a ↦ origins xs ++ (getD (origins xs) a n ∷ []) ]
@@ -114,7 +114,7 @@ module _ (xs : List Line) (x : Line) where
 
   -- a line that stays
   module _ (e : fateOf x ≡ kept) where
-    pub erase-kept : erase (xs ++ (x ∷ [])) ≡ erase xs ++ (renamed here x ∷ [])
+    pub erase-kept : erase (xs ++ (x ∷ [])) ≡ erase xs ++ (renumbered (origins xs) (length (erase xs)) x ∷ [])
     erase-kept = erase-one ∙ ap (λ (w : Fate). erase xs ++ erasing (length (erase xs)) w) e
 
     pub origins-kept : origins (xs ++ (x ∷ [])) ≡ origins xs ++ (length (erase xs) ∷ [])

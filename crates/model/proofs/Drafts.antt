@@ -17,7 +17,7 @@ use Rattle.model.specs.declared.Kind.the-variants.{Ciphertext, Constant,
 use Rattle.model.specs.Files.{kindOf, kindAt, lineFormed, linesFormed}
 use Rattle.model.specs.Machine.{Step, goes, stops, Run, finished, stopped, Machine, andThen, orAbsent, operand, step, run}
 use Rattle.model.specs.Plan.{Draft, emit, unlessZero}
-use Rattle.model.specs.Services.{Fate, kept, madeFrom, fateOf, renamed, erase, origins, keptLines}
+use Rattle.model.specs.Services.{Fate, kept, madeFrom, fateOf, renumbered, erase, origins, keptLines}
 use Rattle.model.specs.Refused.{Found, checkMachine}
 use Rattle.model.proofs.Lists.{length-snoc, found-after, found-last, found-is}
 use Rattle.model.proofs.Appended.{run-snoc, erase-kept, origins-kept, lines-kept, erase-struck, origins-struck, lines-struck, formed-snoc}
@@ -51,8 +51,9 @@ module _ (h : Header) where
   pub reads : {lines : List Line} {i : ℕ} {f : Found} {k : Kind} {o : ℕ} → Stands lines i f k o → operand (checkMachine h) (foundIn lines) i ≡ goes f
   reads s = ap (orAbsent 4) (s .found)
 
-  -- After more lines: the draft is sound, value i stands, and what stood before stands still.
-  pub record Grown (before lines circuit : List Line) (numbers : List ℕ) (i : ℕ) (f : Found) (k : Kind) (o : ℕ) : Type 0 where
+  -- After at most n lines more: the draft is sound, value i stands, and what stood before stands still.
+  pub record Grown (n : ℕ) (before lines circuit : List Line) (numbers : List ℕ) (i : ℕ) (f : Found) (k : Kind) (o : ℕ) : Type 0 where
+    pub few : length lines ≤ n + length before
     pub sound : Sound lines circuit numbers
     pub stands : Stands lines i f k o
     pub still : (j : ℕ) (g : Found) (m : Kind) (p : ℕ) → Stands before j g m p → Stands lines j g m p
@@ -85,9 +86,10 @@ module _ (h : Header) where
         }
 
     grown : (c : List Line) (numbers : List ℕ) (o : ℕ) → T (linesFormed Schedule h [] lines) → T (lineFormed Schedule h lines x) → length (foundIn lines) ≡ length lines → length (origins lines) ≡ length lines
-        → erase (lines ++ (x ∷ [])) ≡ c → keptLines (lines ++ (x ∷ [])) ≡ numbers → origins (lines ++ (x ∷ [])) ≡ origins lines ++ (o ∷ []) → Grown lines (lines ++ (x ∷ [])) c numbers (length lines) f (kindOf x) o
+        → erase (lines ++ (x ∷ [])) ≡ c → keptLines (lines ++ (x ∷ [])) ≡ numbers → origins (lines ++ (x ∷ [])) ≡ origins lines ++ (o ∷ []) → Grown 1 lines (lines ++ (x ∷ [])) c numbers (length lines) f (kindOf x) o
     grown c numbers o p q l t er ke ori =
         record {
+          few = omega (arith, length-snoc lines x);
           sound =
               record {
                 checks = snoc-runs ∙ ap finished (sym snoc-found);
@@ -103,8 +105,8 @@ module _ (h : Header) where
 
   -- a line that stays: one line more of the circuit
   pub emit-kept : {lines circuit : List Line} {numbers : List ℕ} (x y : Line) (f : Found) → Sound lines circuit numbers → fateOf x ≡ kept → ((n : ℕ) → step (checkMachine h) n (foundIn lines) x ≡ goes f)
-      → T (lineFormed Schedule h lines x) → renamed (λ a. getD (origins lines) a (length (erase lines))) x ≡ y
-      → Grown lines (lines ++ (x ∷ [])) (circuit ++ (y ∷ [])) (numbers ++ (length lines ∷ [])) (length lines) f (kindOf x) (length circuit)
+      → T (lineFormed Schedule h lines x) → renumbered (origins lines) (length (erase lines)) x ≡ y
+      → Grown 1 lines (lines ++ (x ∷ [])) (circuit ++ (y ∷ [])) (numbers ++ (length lines ∷ [])) (length lines) f (kindOf x) (length circuit)
   emit-kept {lines} {circuit} {numbers} x y f s e g w r =
       grown lines x f (s .checks) g (circuit ++ (y ∷ [])) (numbers ++ (length lines ∷ [])) (length circuit) (s .formed) w (s .long) (s .traced)
       (erase-kept lines x e ∙ (λ i. s .erases i ++ (r i ∷ []))) (lines-kept lines x e ∙ ap (λ (l : List ℕ). l ++ (length lines ∷ [])) (s .kept-are))
@@ -112,19 +114,24 @@ module _ (h : Header) where
 
   -- a line that is struck: it comes from where its operand comes from
   pub emit-struck : {lines circuit : List Line} {numbers : List ℕ} {a : ℕ} {g : Found} {k : Kind} {o : ℕ} (x : Line) (f : Found) → Sound lines circuit numbers → Stands lines a g k o → fateOf x ≡ madeFrom a
-      → ((n : ℕ) → step (checkMachine h) n (foundIn lines) x ≡ goes f) → T (lineFormed Schedule h lines x) → Grown lines (lines ++ (x ∷ [])) circuit numbers (length lines) f (kindOf x) o
+      → ((n : ℕ) → step (checkMachine h) n (foundIn lines) x ≡ goes f) → T (lineFormed Schedule h lines x) → Grown 1 lines (lines ++ (x ∷ [])) circuit numbers (length lines) f (kindOf x) o
   emit-struck {lines} {circuit} {numbers} {a} {o} x f s t e g w =
       grown lines x f (s .checks) g circuit numbers o (s .formed) w (s .long) (s .traced)
       (erase-struck lines x a e ∙ s .erases) (lines-struck lines x a e ∙ s .kept-are)
       (origins-struck lines x a e ∙ ap (λ (p : ℕ). origins lines ++ (p ∷ [])) (found-is (origins lines) a (length (erase lines)) (t .origin)))
 
   -- one growth after another
-  pub then : {before lines after c d : List Line} {ns ms : List ℕ} {i j : ℕ} {f g : Found} {k m : Kind} {o p : ℕ} → Grown before lines c ns i f k o → Grown lines after d ms j g m p → Grown before after d ms j g m p
-  then a b = record { sound = b .sound; stands = b .stands; still = λ q v w u s. b .still q v w u (a .still q v w u s) }
+  pub then : {n n′ : ℕ} {before lines after c d : List Line} {ns ms : List ℕ} {i j : ℕ} {f g : Found} {k m : Kind} {o p : ℕ}
+    → Grown n before lines c ns i f k o → Grown n′ lines after d ms j g m p → Grown (n + n′) before after d ms j g m p
+  then a b = record { few = omega (arith, a .few, b .few); sound = b .sound; stands = b .stands; still = λ q v w u s. b .still q v w u (a .still q v w u s) }
 
   -- nothing added
-  pub none : {lines c : List Line} {ns : List ℕ} {i : ℕ} {f : Found} {k : Kind} {o : ℕ} → Sound lines c ns → Stands lines i f k o → Grown lines lines c ns i f k o
-  none s t = record { sound = s; stands = t; still = λ q v w u x. x }
+  pub none : {lines c : List Line} {ns : List ℕ} {i : ℕ} {f : Found} {k : Kind} {o : ℕ} (n : ℕ) → Sound lines c ns → Stands lines i f k o → Grown n lines lines c ns i f k o
+  none n s t = record { few = omega arith; sound = s; stands = t; still = λ q v w u x. x }
+
+  -- a greater count
+  pub at-most : {n : ℕ} {before lines c : List Line} {ns : List ℕ} {i : ℕ} {f : Found} {k : Kind} {o : ℕ} (m : ℕ) → n ≤ m → Grown n before lines c ns i f k o → Grown m before lines c ns i f k o
+  at-most m u g = record { few = omega (arith, g .few); sound = g .sound; stands = g .stands; still = g .still }
 
   -- the empty schedule
   pub nothing : Sound [] [] []

@@ -12,7 +12,7 @@ use Rattle.model.specs.declared.Line.the-variants.{In, Const, Neg, Rot, 
 use Rattle.model.specs.declared.Kind.{Kind}
 use Rattle.model.specs.Files.{kindOf}
 use Rattle.model.specs.Machine.{Step, goes, stops, Run, finished, stopped, Machine, andThen, orAbsent, operand, step, countIn, runFrom, run}
-use Rattle.model.specs.Services.{Fate, kept, madeFrom, fateOf, renamed, eraseFrom, originsFrom, keptFrom, erase, origins, keptLines}
+use Rattle.model.specs.Services.{Fate, kept, madeFrom, fateOf, renumbered, eraseFrom, originsFrom, keptFrom, erase, origins, keptLines}
 use Rattle.model.proofs.Lists.{length-snoc, found-below, found-after, found-last, All2, nil2, cons2, snoc2, map2, length2}
 
 abbrev byWord : ℕ → Line → Fate
@@ -71,7 +71,7 @@ module _ {X E : Type 0} (M : Machine X E) where
 
     -- what is known of a line by its fate
     abbrev Known : Line → Fate → Type 0
-    Known x kept = Refines (step (through M) k S x) (step M k R (renamed (λ a. getD O a n) x)) × (countIn (renamed (λ a. getD O a n) x) k ≡ countIn x k)
+    Known x kept = Refines (step (through M) k S x) (step M k R (renumbered O n x)) × (countIn (renumbered O n x) k ≡ countIn x k)
     Known x (madeFrom a) = (step (through M) k S x ≡ andThen (operand M S a) goes) × (countIn x k ≡ k)
 
     known : (x : Line) → Known x (fateOf x)
@@ -125,10 +125,10 @@ module _ {X E : Type 0} (M : Machine X E) where
 
       -- the circuit's side, as its step comes out
       onward : Step X E → Run X E
-      onward t = elim t [ goes v ↦ runFrom M (countIn (renamed f x) k) (R ++ (v ∷ [])) (eraseFrom byWord (O ++ (n ∷ [])) (suc n) xs) | stops d ↦ stopped (length R) d ]
+      onward t = elim t [ goes v ↦ runFrom M (countIn (renumbered O n x) k) (R ++ (v ∷ [])) (eraseFrom byWord (O ++ (n ∷ [])) (suc n) xs) | stops d ↦ stopped (length R) d ]
 
       circuit : Fate → Run X E
-      circuit w = runFrom M k R (elim w [ kept ↦ renamed f x ∷ eraseFrom byWord (O ++ (n ∷ [])) (suc n) xs | madeFrom a ↦ eraseFrom byWord (O ++ (f a ∷ [])) n xs ])
+      circuit w = runFrom M k R (elim w [ kept ↦ renumbered O n x ∷ eraseFrom byWord (O ++ (n ∷ [])) (suc n) xs | madeFrom a ↦ eraseFrom byWord (O ++ (f a ∷ [])) n xs ])
 
       places : Fate → List ℕ
       places w = elim w [ kept ↦ originsFrom byWord (O ++ (n ∷ [])) (suc n) xs | madeFrom a ↦ originsFrom byWord (O ++ (f a ∷ [])) n xs ]
@@ -140,7 +140,7 @@ module _ {X E : Type 0} (M : Machine X E) where
       go w c (stops d) q g g′ = tt
       go kept c (goes v) q g g′ =
           subst (λ (t : Run X E). Into (runFrom (through M) (countIn x k) (S ++ (v ∷ [])) xs) t (originsFrom byWord (O ++ (n ∷ [])) (suc n) xs))
-          (sym (ap onward (subst (λ (s : Step X E). Refines s (step M k R (renamed f x))) q (c .0)) ∙ ap (λ (j : ℕ). runFrom M j (R ++ (v ∷ [])) (eraseFrom byWord (O ++ (n ∷ [])) (suc n) xs)) (c .1)))
+          (sym (ap onward (subst (λ (s : Step X E). Refines s (step M k R (renumbered O n x))) q (c .0)) ∙ ap (λ (j : ℕ). runFrom M j (R ++ (v ∷ [])) (eraseFrom byWord (O ++ (n ∷ [])) (suc n) xs)) (c .1)))
           (g v (snoc2 (more O S R v r) (ap (getElem? (R ++ (v ∷ []))) e ∙ found-last R v)))
       go (madeFrom a) c (goes v) q g g′ =
           subst (λ (j : ℕ). Into (runFrom (through M) (countIn x k) (S ++ (v ∷ [])) xs) (runFrom M j R (eraseFrom byWord (O ++ (f a ∷ [])) n xs)) (originsFrom byWord (O ++ (f a ∷ [])) n xs)) (c .1)

@@ -10,7 +10,7 @@ use lib.ListN.{length, getD, getElem?}
 use Rattle.model.specs.declared.Line.{Line}
 use Rattle.model.specs.declared.Line.the-variants.{In, Const, Neg, Rot, Add, Mul, Out, Enc, Rs, Ms, Us, Free}
 use Rattle.model.specs.Files.{kindOf}
-use Rattle.model.specs.Services.{Fate, kept, madeFrom, fateOf, renamed, eraseFrom, originsFrom, keptFrom, erase, origins, keptLines}
+use Rattle.model.specs.Services.{Fate, kept, madeFrom, fateOf, renamed, renumbered, eraseFrom, originsFrom, keptFrom, erase, origins, keptLines}
 use Rattle.model.proofs.Lists.{length-snoc, found-after, found-last, found-at}
 
 abbrev byWord : ℕ → Line → Fate
@@ -59,7 +59,7 @@ kept-here (x ∷ xs) before first count j e h = go (fateOf x) j h (λ c n j′ h
 
     -- what the line's fate makes of the three lists
     erased : Fate → List Line
-    erased w = elim w [ kept ↦ renamed f x ∷ eraseFrom byWord (before ++ (count ∷ [])) (suc count) xs | madeFrom a ↦ eraseFrom byWord (before ++ (f a ∷ [])) count xs ]
+    erased w = elim w [ kept ↦ renumbered before count x ∷ eraseFrom byWord (before ++ (count ∷ [])) (suc count) xs | madeFrom a ↦ eraseFrom byWord (before ++ (f a ∷ [])) count xs ]
 
     from : Fate → List ℕ
     from w = elim w [ kept ↦ originsFrom byWord (before ++ (count ∷ [])) (suc count) xs | madeFrom a ↦ originsFrom byWord (before ++ (f a ∷ [])) count xs ]
@@ -79,7 +79,7 @@ kept-here (x ∷ xs) before first count j e h = go (fateOf x) j h (λ c n j′ h
           place = omega arith;
           below = omega arith;
           origin = origins-after xs (before ++ (count ∷ [])) (suc count) first (ap (getElem? (before ++ (count ∷ []))) e ∙ found-last before count) ∙ ap some (omega arith);
-          same-kind = renamed-kind f x;
+          same-kind = renamed-kind _ x;
         }
     go kept (suc j) h r = let later = r count (suc count) j (le-of-suc-le-suc h) in
         record {
@@ -105,7 +105,7 @@ count-here (x ∷ xs) before first count = go (fateOf x) (λ c n. count-here xs 
   where
     go : (w : Fate) → ((c n : ℕ) → length (keptFrom byWord (suc first) xs) ≡ length (eraseFrom byWord (before ++ (c ∷ [])) n xs))
         → length {A = ℕ} (elim w [ kept ↦ first ∷ keptFrom byWord (suc first) xs | madeFrom a ↦ keptFrom byWord (suc first) xs ])
-        ≡ length {A = Line} (elim w [ kept ↦ renamed (λ a. getD before a count) x ∷ eraseFrom byWord (before ++ (count ∷ [])) (suc count) xs | madeFrom a ↦ eraseFrom byWord (before ++ (getD before a count ∷ [])) count xs ])
+        ≡ length {A = Line} (elim w [ kept ↦ renumbered before count x ∷ eraseFrom byWord (before ++ (count ∷ [])) (suc count) xs | madeFrom a ↦ eraseFrom byWord (before ++ (getD before a count ∷ [])) count xs ])
     go kept r = ap suc (r count (suc count))
     go (madeFrom a) r = r (getD before a count) count
 

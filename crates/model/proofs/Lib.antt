@@ -24,7 +24,6 @@ pub mod Supplies
 pub mod Meets
 pub mod Lines
 pub mod Planned
-pub mod Count
 pub mod Least
 pub mod Statements
 pub mod Theorems

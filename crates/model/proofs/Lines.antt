@@ -31,7 +31,7 @@ use Rattle.model.proofs.Lists.{found-at, found-is}
 use Rattle.model.proofs.Bounded.{bounded-goes}
 use Rattle.model.proofs.Placed.{placed-elim}
 use Rattle.model.proofs.Formed.{LineFacts, usable-below}
-use Rattle.model.proofs.Drafts.{foundIn, Sound, Stands, kind-at, reads, Grown, emit-kept, then}
+use Rattle.model.proofs.Drafts.{foundIn, Sound, Stands, kind-at, reads, Grown, emit-kept, then, at-most}
 use Rattle.model.proofs.Supplies.{on-ciphertext-formed, Valid, scaleAt, valid-bounds, ValidBest, foundFor, kindFor, suppliedFound, suppliedKind, Reaches, supply-grown}
 use Rattle.model.proofs.Meets.{Meets, waterline-valid, meets-one, meets-sum, meets-times-constant, meets-constant-times, constant-scale, meets-product, product-scale}
 
@@ -39,6 +39,7 @@ module _ (h : Header) (H : HeaderFacts h) where
   -- What holds when the circuit lines `done` are planned: their best values, the value numbers that they have in the schedule, its lines.
   pub record Progress (done : List Line) (best : List Best) (numbers : List ℕ) (lines : List Line) : Type 0 where
     pub sound : Sound h lines done numbers
+    pub few : length lines ≤ 7 * length done
     pub long : length best ≡ length done
     pub counted : length numbers ≡ length done
     pub valid : (a : ℕ) (b : Best) → getElem? best a ≡ some b → ValidBest h H b
@@ -96,9 +97,9 @@ module _ (h : Header) (H : HeaderFacts h) where
     -- an operand brought to where the line is done
     brought : (a : ℕ) (b : Best) (ls : List Line) (p : Placement) (r : ℤ) → getD full a Best.constant ≡ b → ValidBest h H b → Valid h H r (p .level) → Reaches h H b r (p .level)
         → Sound h ls done numbers → Stands h ls (getD numbers a 0) (foundFor h H b) (kindFor h H b) a
-        → Grown h ls (operandTo h full numbers p r a ls .lines) done numbers (operandTo h full numbers p r a ls .number) (suppliedFound h H b r (p .level)) (suppliedKind h H b) a
+        → Grown h 3 ls (operandTo h full numbers p r a ls .lines) done numbers (operandTo h full numbers p r a ls .number) (suppliedFound h H b r (p .level)) (suppliedKind h H b) a
     brought a b ls p r e u v x s t =
-        subst (λ (z : Best). Grown h ls (supply h z r (p .level) (d₀ a ls) .lines) done numbers (supply h z r (p .level) (d₀ a ls) .number) (suppliedFound h H b r (p .level)) (suppliedKind h H b) a) (sym e)
+        subst (λ (z : Best). Grown h 3 ls (supply h z r (p .level) (d₀ a ls) .lines) done numbers (supply h z r (p .level) (d₀ a ls) .number) (suppliedFound h H b r (p .level)) (suppliedKind h H b) a) (sym e)
         (supply-grown h H b r (p .level) (d₀ a ls) u v x s t)
 
     -- the origin of what was supplied
@@ -111,10 +112,10 @@ module _ (h : Header) (H : HeaderFacts h) where
         → ((ls : List Line) (i j : ℕ) → lineFormed Schedule h ls (word i j) ≡ (true && (isUsable (kindAt ls i) && (isUsable (kindAt ls j) && true) && isPair Schedule (kindAt ls i) (kindAt ls j))))
         → getD full a Best.constant ≡ u → getD full b Best.constant ≡ v → Ready lines numbers a u → Ready lines numbers b v → Pair u v → Meets h H p u v
         → f (scaleAt h H (p .first) (p .level)) (p .level) (scaleAt h H (p .second) (p .level)) (p .level) ≡ goes (Found.ciphertext (scaleAt h H (p .reserve) (p .level)) (p .level))
-        → Grown h lines (planTwo h full numbers p word a b lines .lines) (done ++ (word a b ∷ [])) (numbers ++ (planTwo h full numbers p word a b lines .number ∷ [])) (planTwo h full numbers p word a b lines .number)
+        → Grown h 7 lines (planTwo h full numbers p word a b lines .lines) (done ++ (word a b ∷ [])) (numbers ++ (planTwo h full numbers p word a b lines .number ∷ [])) (planTwo h full numbers p word a b lines .number)
         (Found.ciphertext (scaleAt h H (p .reserve) (p .level)) (p .level)) Ciphertext (length done)
     two-grown word f a b u v p fate rename kind steps forms e e′ x y z m goes-on =
-        subst (λ (k : Kind). Grown h lines (E .lines ++ (word (D .number) (E .number) ∷ [])) (done ++ (word a b ∷ [])) (numbers ++ (length (E .lines) ∷ [])) (length (E .lines)) result k (length done)) (kind (D .number) (E .number))
+        subst (λ (k : Kind). Grown h 7 lines (E .lines ++ (word (D .number) (E .number) ∷ [])) (done ++ (word a b ∷ [])) (numbers ++ (length (E .lines) ∷ [])) (length (E .lines)) result k (length done)) (kind (D .number) (E .number))
         (then h g₁ (then h g₂ (emit-kept h (word (D .number) (E .number)) (word a b) result (g₂ .sound) (fate _ _)
         (λ n. steps n (D .number) (E .number) (foundIn h (E .lines)) ∙ on-two f first second ∙ pair-found f u v (p .first) (p .second) (p .level) z ∙ goes-on)
         (subst T (sym (forms (E .lines) (D .number) (E .number))) (two-formed true _ _ u v tt (kind-at h first) (kind-at h second) z))
@@ -129,10 +130,10 @@ module _ (h : Header) (H : HeaderFacts h) where
         E : Draft
         E = operandTo h full numbers p (p .second) b (D .lines)
 
-        g₁ : Grown h lines (D .lines) done numbers (D .number) (suppliedFound h H u (p .first) (p .level)) (suppliedKind h H u) a
+        g₁ : Grown h 3 lines (D .lines) done numbers (D .number) (suppliedFound h H u (p .first) (p .level)) (suppliedKind h H u) a
         g₁ = brought a u lines p (p .first) e (x .valid) (m .first) (m .first-reached) S (x .stands)
 
-        g₂ : Grown h (D .lines) (E .lines) done numbers (E .number) (suppliedFound h H v (p .second) (p .level)) (suppliedKind h H v) b
+        g₂ : Grown h 3 (D .lines) (E .lines) done numbers (E .number) (suppliedFound h H v (p .second) (p .level)) (suppliedKind h H v) b
         g₂ = brought b v (D .lines) p (p .second) e′ (y .valid) (m .second) (m .second-reached) (g₁ .sound) (g₁ .still _ _ _ _ (y .stands))
 
         first : Stands h (E .lines) (D .number) (suppliedFound h H u (p .first) (p .level)) (suppliedKind h H u) a
@@ -146,13 +147,13 @@ module _ (h : Header) (H : HeaderFacts h) where
         → ((n i : ℕ) (found : List Found) → step (checkMachine h) n found (word i) ≡ andThen (operand (checkMachine h) found i) (Refused.onCiphertext (λ s l. bounded h Found.ciphertext (pos s) (pos l))))
         → ((ls : List Line) (i : ℕ) → kindAt ls i ≡ Ciphertext → T (lineFormed Schedule h ls (word i)))
         → getD full a Best.constant ≡ Best.ciphertext q → Ready lines numbers a (Best.ciphertext q)
-        → Grown h lines (planOne h full numbers (placeAt h (q .reserve)) word a lines .lines) (done ++ (word a ∷ [])) (numbers ++ (planOne h full numbers (placeAt h (q .reserve)) word a lines .number ∷ []))
+        → Grown h 7 lines (planOne h full numbers (placeAt h (q .reserve)) word a lines .lines) (done ++ (word a ∷ [])) (numbers ++ (planOne h full numbers (placeAt h (q .reserve)) word a lines .number ∷ []))
         (planOne h full numbers (placeAt h (q .reserve)) word a lines .number) (foundFor h H (Best.ciphertext (placeAt h (q .reserve)))) Ciphertext (length done)
     one-grown word a q fate rename kind steps forms e x =
-        subst (λ (k : Kind). Grown h lines (D .lines ++ (word (D .number) ∷ [])) (done ++ (word a ∷ [])) (numbers ++ (length (D .lines) ∷ [])) (length (D .lines)) result k (length done)) (kind (D .number))
-        (then h g₁ (emit-kept h (word (D .number)) (word a) result (g₁ .sound) (fate _)
+        subst (λ (k : Kind). Grown h 7 lines (D .lines ++ (word (D .number) ∷ [])) (done ++ (word a ∷ [])) (numbers ++ (length (D .lines) ∷ [])) (length (D .lines)) result k (length done)) (kind (D .number))
+        (at-most h 7 (omega arith) (then h g₁ (emit-kept h (word (D .number)) (word a) result (g₁ .sound) (fate _)
         (λ n. steps n (D .number) (foundIn h (D .lines)) ∙ ap (λ (s : Step Found ℕ). andThen s (Refused.onCiphertext (λ s l. bounded h Found.ciphertext (pos s) (pos l)))) (reads h (g₁ .stands)) ∙ bounded-goes h Found.ciphertext _ _ (valid-bounds h H (m .own)))
-        (forms (D .lines) (D .number) (kind-at h (g₁ .stands))) (rename _ _ ∙ ap word (names (g₁ .stands)))))
+        (forms (D .lines) (D .number) (kind-at h (g₁ .stands))) (rename _ _ ∙ ap word (names (g₁ .stands))))))
       where
         p : Placement
         p = placeAt h (q .reserve)
@@ -166,21 +167,21 @@ module _ (h : Header) (H : HeaderFacts h) where
         D : Draft
         D = operandTo h full numbers (placeAt h (q .reserve)) (q .reserve) a lines
 
-        g₁ : Grown h lines (D .lines) done numbers (D .number) result Ciphertext a
+        g₁ : Grown h 3 lines (D .lines) done numbers (D .number) result Ciphertext a
         g₁ = brought a (Best.ciphertext q) lines (placeAt h (q .reserve)) (q .reserve) e (x .valid) (m .first) (m .first-reached) S (x .stands)
 
     pub out-grown : (a : ℕ) (q : Placement) → Ready lines numbers a (Best.ciphertext q)
-        → Grown h lines (lines ++ (Out (getD numbers a 0) ∷ [])) (done ++ (Out a ∷ [])) (numbers ++ (length lines ∷ [])) (length lines) (foundFor h H (Best.ciphertext q)) Nothing (length done)
-    out-grown a q x = emit-kept h (Out (getD numbers a 0)) (Out a) (foundFor h H (Best.ciphertext q)) S refl
+        → Grown h 7 lines (lines ++ (Out (getD numbers a 0) ∷ [])) (done ++ (Out a ∷ [])) (numbers ++ (length lines ∷ [])) (length lines) (foundFor h H (Best.ciphertext q)) Nothing (length done)
+    out-grown a q x = at-most h 7 (omega arith) (emit-kept h (Out (getD numbers a 0)) (Out a) (foundFor h H (Best.ciphertext q)) S refl
         (λ n. ap (λ (s : Step Found ℕ). andThen s (Refused.onCiphertext (λ s l. bounded h Found.ciphertext (pos s) (pos l)))) (reads h (x .stands)) ∙ bounded-goes h Found.ciphertext _ _ (valid-bounds h H (x .valid)))
-        (on-ciphertext-formed true (kindAt lines (getD numbers a 0)) tt (kind-at h (x .stands))) (ap Out (names (x .stands)))
+        (on-ciphertext-formed true (kindAt lines (getD numbers a 0)) tt (kind-at h (x .stands))) (ap Out (names (x .stands))))
 
-    pub const-grown : (k : ℕ) → T (inRange h (Const k)) → Grown h lines (lines ++ (Const k ∷ [])) (done ++ (Const k ∷ [])) (numbers ++ (length lines ∷ [])) (length lines) Found.bare Constant (length done)
-    const-grown k r = emit-kept h (Const k) (Const k) Found.bare S refl (λ n. refl) (and-both (inRange h (Const k)) true r tt) refl
+    pub const-grown : (k : ℕ) → T (inRange h (Const k)) → Grown h 7 lines (lines ++ (Const k ∷ [])) (done ++ (Const k ∷ [])) (numbers ++ (length lines ∷ [])) (length lines) Found.bare Constant (length done)
+    const-grown k r = at-most h 7 (omega arith) (emit-kept h (Const k) (Const k) Found.bare S refl (λ n. refl) (and-both (inRange h (Const k)) true r tt) refl)
 
-    pub in-grown : Valid h H (atWaterline h (h .top)) (h .top) → Grown h lines (lines ++ (In ∷ [])) (done ++ (In ∷ [])) (numbers ++ (length lines ∷ [])) (length lines) (foundFor h H (Best.ciphertext (placeInput h))) Ciphertext (length done)
-    in-grown v = emit-kept h In In (foundFor h H (Best.ciphertext (placeInput h))) S refl
-        (λ n. ap (λ (s : ℕ). bounded h Found.ciphertext (pos s) (pos (h .top))) scale ∙ bounded-goes h Found.ciphertext _ _ (valid-bounds h H v)) tt refl
+    pub in-grown : Valid h H (atWaterline h (h .top)) (h .top) → Grown h 7 lines (lines ++ (In ∷ [])) (done ++ (In ∷ [])) (numbers ++ (length lines ∷ [])) (length lines) (foundFor h H (Best.ciphertext (placeInput h))) Ciphertext (length done)
+    in-grown v = at-most h 7 (omega arith) (emit-kept h In In (foundFor h H (Best.ciphertext (placeInput h))) S refl
+        (λ n. ap (λ (s : ℕ). bounded h Found.ciphertext (pos s) (pos (h .top))) scale ∙ bounded-goes h Found.ciphertext _ _ (valid-bounds h H v)) tt refl)
       where
         scale : h .waterline ≡ scaleAt h H (atWaterline h (h .top)) (h .top)
         scale = omega (arith, positive-sub (h .factor * h .top) (h .waterline), v .fits)

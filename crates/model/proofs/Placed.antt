@@ -14,12 +14,12 @@ use Rattle.model.specs.Plan.{Placement, Best, placed}
 use Rattle.model.proofs.Products.{by-test}
 
 module _ (h : Header) (p : Placement) where
-  pub placed-elim : (P : Step Best ℕ → Type 0) → P (stops 6) → (pos (floor h) ≤ℤ p .reserve → P (goes (Best.ciphertext p))) → P (placed h p)
-  placed-elim P s g = by-test P (ltZ (p .reserve) (pos (floor h))) (stops 6) (goes (Best.ciphertext p)) (λ e. s) (λ e. g (omega (signed, e)))
-
   pub placed-goes : pos (floor h) ≤ℤ p .reserve → placed h p ≡ goes (Best.ciphertext p)
   placed-goes a = by-test (λ t. t ≡ goes (Best.ciphertext p)) (ltZ (p .reserve) (pos (floor h))) (stops 6) (goes (Best.ciphertext p))
       (λ e. absurd (never (lt-true (p .reserve) (pos (floor h)) e) (≤-read (pos (floor h)) (p .reserve) a))) (λ e. refl)
     where
       never : positive (p .reserve) + 0 < floor h + negative (p .reserve) → floor h + negative (p .reserve) ≤ positive (p .reserve) + 0 → ⊥
       never x y = omega arith
+
+  pub placed-elim : (P : Step Best ℕ → Type 0) → P (stops 6) → (pos (floor h) ≤ℤ p .reserve → P (goes (Best.ciphertext p))) → P (placed h p)
+  placed-elim P s g = by-test P (ltZ (p .reserve) (pos (floor h))) (stops 6) (goes (Best.ciphertext p)) (λ e. s) (λ e. g (omega (signed, e)))

@@ -84,7 +84,7 @@ module _ (h : Header) (H : HeaderFacts h) where
     pub record Added (x : Line) (v : Best) : Type 0 where
       pub valid : ValidBest h H v
       pub kind : T (isUsable (kindOf x)) → kindOf x ≡ kindFor h H v
-      pub grown : Grown h lines (planLine h full numbers (placementOf v) x lines .lines) (done ++ (x ∷ [])) (numbers ++ (planLine h full numbers (placementOf v) x lines .number ∷ []))
+      pub grown : Grown h 7 lines (planLine h full numbers (placementOf v) x lines .lines) (done ++ (x ∷ [])) (numbers ++ (planLine h full numbers (placementOf v) x lines .number ∷ []))
           (planLine h full numbers (placementOf v) x lines .number) (foundFor h H v) (kindOf x) (length done)
 
     usable-one : (a : ℕ) → T (everyUsable done (a ∷ [])) → T (isUsable (kindAt done a))
@@ -211,6 +211,7 @@ module _ (h : Header) (H : HeaderFacts h) where
     more x v A =
         record {
           sound = A .grown .sound;
+          few = omega (arith, A .grown .few, P .few, length-snoc done x);
           long = length-snoc best v ∙ ap suc (P .long) ∙ sym (length-snoc done x);
           counted = length-snoc numbers (d .number) ∙ ap suc (P .counted) ∙ sym (length-snoc done x);
           valid = λ a b e. found-snoc best v a e (ValidBest h H b) (λ p. P .valid a b p) (λ p q. subst (ValidBest h H) q (A .valid));
@@ -294,7 +295,7 @@ module _ (h : Header) (H : HeaderFacts h) where
   planned c {best} t e = planned-from c 0 [] [] best [] [] start t e
     where
       start : Progress h H [] [] [] []
-      start = record { sound = nothing h; long = refl; counted = refl; valid = λ a b e. absurd (empty e); kinds = λ a x b e. absurd (empty e); entry = λ a x b e. absurd (empty e) }
+      start = record { sound = nothing h; few = omega arith; long = refl; counted = refl; valid = λ a b e. absurd (empty e); kinds = λ a x b e. absurd (empty e); entry = λ a x b e. absurd (empty e) }
         where
           empty : {X : Type 0} {x : X} → _≡_ {A = Option X} none (some x) → ⊥
           empty q = let z : _≡_ {A = ℕ} 0 1 = cc in omega arith

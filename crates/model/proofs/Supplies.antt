@@ -26,7 +26,7 @@ use Rattle.model.specs.Services.{Fate, madeFrom, fateOf}
 use Rattle.model.specs.Refused.{Found, bounded, onBare, onCiphertext, checkMachine}
 use Rattle.model.proofs.Tests.{and-both, within-passes, HeaderFacts}
 use Rattle.model.proofs.Bounded.{bounded-goes}
-use Rattle.model.proofs.Drafts.{foundIn, Sound, Stands, kind-at, reads, Grown, emit-struck, then, none}
+use Rattle.model.proofs.Drafts.{foundIn, Sound, Stands, kind-at, reads, Grown, emit-struck, then, none, at-most}
 
 -- a line with one operand of its kind
 pub on-ciphertext-formed : (r : Bool) (k : Kind) → T r → k ≡ Ciphertext → T (r && (isUsable k && true && isCiphertext k))
@@ -48,12 +48,12 @@ module _ (h : Header) (H : HeaderFacts h) where
 
     unless : {c : List Line} {ns : List ℕ} {o : ℕ} (n : ℕ) (d : Draft) (s l s′ l′ : ℕ) → Sound h (d .lines) c ns → Stands h (d .lines) (d .number) (Found.ciphertext s l) Ciphertext o
         → (n ≡ 0 → (s ≡ s′) × (l ≡ l′)) → (1 ≤ n → Converts (d .lines) (d .number) n s l s′ l′)
-        → Grown h (d .lines) (unlessZero word n d .lines) c ns (unlessZero word n d .number) (Found.ciphertext s′ l′) Ciphertext o
+        → Grown h 1 (d .lines) (unlessZero word n d .lines) c ns (unlessZero word n d .number) (Found.ciphertext s′ l′) Ciphertext o
     unless {o} zero d s l s′ l′ S t z f =
-        none h S (subst (λ (x : Found). Stands h (d .lines) (d .number) x Ciphertext o) (ap₂ Found.ciphertext (z refl .0) (z refl .1)) t)
+        none h 1 S (subst (λ (x : Found). Stands h (d .lines) (d .number) x Ciphertext o) (ap₂ Found.ciphertext (z refl .0) (z refl .1)) t)
     unless {c} {ns} {o} (suc n) d s l s′ l′ S t z f =
         let x = f (omega arith) in
-        subst (λ (k : Kind). Grown h (d .lines) (d .lines ++ (word (d .number) (suc n) ∷ [])) c ns (length (d .lines)) (Found.ciphertext s′ l′) k o) (kind (d .number) (suc n))
+        subst (λ (k : Kind). Grown h 1 (d .lines) (d .lines ++ (word (d .number) (suc n) ∷ [])) c ns (length (d .lines)) (Found.ciphertext s′ l′) k o) (kind (d .number) (suc n))
         (emit-struck h (word (d .number) (suc n)) (Found.ciphertext s′ l′) S t (fate (d .number) (suc n)) (x .checks) (x .formed))
 
   -- what the check makes of a ciphertext operand
@@ -77,7 +77,7 @@ module _ (h : Header) (H : HeaderFacts h) where
     split′ = ap (λ (x : ℕ). h .factor * x) (omega arith) ∙ mul-add (h .factor) (l - l′ - q) l′
 
     three : {c : List Line} {ns : List ℕ} {o : ℕ} (d : Draft) → Sound h (d .lines) c ns → Stands h (d .lines) (d .number) (Found.ciphertext (h .factor * l - n) l) Ciphertext o
-        → Grown h (d .lines) (convert h (n - n′) (l - l′) q d .lines) c ns (convert h (n - n′) (l - l′) q d .number) (Found.ciphertext (h .factor * l′ - n′) l′) Ciphertext o
+        → Grown h 3 (d .lines) (convert h (n - n′) (l - l′) q d .lines) c ns (convert h (n - n′) (l - l′) q d .number) (Found.ciphertext (h .factor * l′ - n′) l′) Ciphertext o
     three {c} {ns} {o} d S t = then h g₁ (then h g₂ g₃)
       where
         s : ℕ
@@ -101,21 +101,21 @@ module _ (h : Header) (H : HeaderFacts h) where
         b₃ : Bounds h (h .factor * l′ - n′) l′
         b₃ = omega arith
 
-        g₁ : Grown h (d .lines) (d₁ .lines) c ns (d₁ .number) (Found.ciphertext s (l - q)) Ciphertext o
+        g₁ : Grown h 1 (d .lines) (d₁ .lines) c ns (d₁ .number) (Found.ciphertext s (l - q)) Ciphertext o
         g₁ = unless Ms (λ i m. refl) (λ i m. refl) q d s l s (l - q) S t (λ e. (refl, omega arith))
             (λ e. record {
               checks = λ k. on-operand s l _ _ t (ap (bounded h Found.ciphertext (pos s)) (sub-is l q (omega arith)) ∙ bounded-goes h Found.ciphertext s (l - q) b₁);
               formed = on-ciphertext-formed (within 1 60 q) (kindAt (d .lines) (d .number)) (count-ok q e (omega arith)) (kind-at h t);
             })
 
-        g₂ : Grown h (d₁ .lines) (d₂ .lines) c ns (d₂ .number) (Found.ciphertext s₂ (l - q)) Ciphertext o
+        g₂ : Grown h 1 (d₁ .lines) (d₂ .lines) c ns (d₂ .number) (Found.ciphertext s₂ (l - q)) Ciphertext o
         g₂ = unless Us (λ i m. refl) (λ i m. refl) (n - n′ - q * h .factor) d₁ s (l - q) s₂ (l - q) (g₁ .sound) (g₁ .stands) (λ e. (omega arith, refl))
             (λ e. record {
               checks = λ k. on-operand s (l - q) _ _ (g₁ .stands) (bounded-goes h Found.ciphertext s₂ (l - q) b₂);
               formed = on-ciphertext-formed (within 1 3600 (n - n′ - q * h .factor)) (kindAt (d₁ .lines) (d₁ .number)) (bits-ok (n - n′ - q * h .factor) l e top (omega arith)) (kind-at h (g₁ .stands));
             })
 
-        g₃ : Grown h (d₂ .lines) (convert h (n - n′) (l - l′) q d .lines) c ns (convert h (n - n′) (l - l′) q d .number) (Found.ciphertext (h .factor * l′ - n′) l′) Ciphertext o
+        g₃ : Grown h 1 (d₂ .lines) (convert h (n - n′) (l - l′) q d .lines) c ns (convert h (n - n′) (l - l′) q d .number) (Found.ciphertext (h .factor * l′ - n′) l′) Ciphertext o
         g₃ = unless Rs (λ i m. refl) (λ i m. refl) (l - l′ - q) d₂ s₂ (l - q) (h .factor * l′ - n′) l′ (g₂ .sound) (g₂ .stands)
             (λ e. (omega (arith, split, ap (λ (x : ℕ). h .factor * x) e), omega arith))
             (λ e. record {
@@ -144,12 +144,12 @@ module _ (h : Header) (H : HeaderFacts h) where
 
   bring-grown : {c : List Line} {ns : List ℕ} {o : ℕ} (r : ℤ) (l : ℕ) (r′ : ℤ) (l′ : ℕ) (d : Draft) → Valid r l → Valid r′ l′ → positive r′ ≤ positive r → l′ ≤ l
       → Sound h (d .lines) c ns → Stands h (d .lines) (d .number) (Found.ciphertext (scaleAt r l) l) Ciphertext o
-      → Grown h (d .lines) (bring h r l r′ l′ d .lines) c ns (bring h r l r′ l′ d .number) (Found.ciphertext (scaleAt r′ l′) l′) Ciphertext o
+      → Grown h 3 (d .lines) (bring h r l r′ l′ d .lines) c ns (bring h r l r′ l′ d .number) (Found.ciphertext (scaleAt r′ l′) l′) Ciphertext o
   bring-grown {c} {ns} {o} r l r′ l′ d v v′ e e′ S t = subst P distance
       (three (positive r) (positive r′) l l′ (switches h (positive r - positive r′) (l - l′)) (v .fits) (v′ .fits) (v′ .least) e e′ (v .top) (omega arith) (count-fits (positive r - positive r′) (l - l′)) d S t)
     where
       P : ℕ → Type 0
-      P m = Grown h (d .lines) (convert h m (l - l′) (switches h m (l - l′)) d .lines) c ns (convert h m (l - l′) (switches h m (l - l′)) d .number) (Found.ciphertext (scaleAt r′ l′) l′) Ciphertext o
+      P m = Grown h 3 (d .lines) (convert h m (l - l′) (switches h m (l - l′)) d .lines) c ns (convert h m (l - l′) (switches h m (l - l′)) d .number) (Found.ciphertext (scaleAt r′ l′) l′) Ciphertext o
 
       distance : positive r - positive r′ ≡ positive (r -ℤ r′)
       distance = sym (ap positive (λ i. v .whole i -ℤ v′ .whole i) ∙ positive-sub (positive r) (positive r′))
@@ -186,15 +186,15 @@ module _ (h : Header) (H : HeaderFacts h) where
 
   pub supply-grown : {c : List Line} {ns : List ℕ} {o : ℕ} (b : Best) (r : ℤ) (l : ℕ) (d : Draft) → ValidBest b → Valid r l → Reaches b r l
       → Sound h (d .lines) c ns → Stands h (d .lines) (d .number) (foundFor b) (kindFor b) o
-      → Grown h (d .lines) (supply h b r l d .lines) c ns (supply h b r l d .number) (suppliedFound b r l) (suppliedKind b) o
+      → Grown h 3 (d .lines) (supply h b r l d .lines) c ns (supply h b r l d .number) (suppliedFound b r l) (suppliedKind b) o
   supply-grown {c} {ns} {o} Best.constant r l d u v x S t =
-      emit-struck h (Enc (d .number) (scaleFor h r l) l) (Found.encoded (scaleAt r l) l) S t refl
+      at-most h 3 (omega arith) (emit-struck h (Enc (d .number) (scaleFor h r l) l) (Found.encoded (scaleAt r l) l) S t refl
       (λ k. ap (λ (s : Step Found ℕ). andThen s (onBare (bounded h Found.encoded (pos (scaleFor h r l)) (pos l)))) (reads h t)
       ∙ ap (λ (s : ℕ). bounded h Found.encoded (pos s) (pos l)) scale ∙ bounded-goes h Found.encoded (scaleAt r l) l (valid-bounds v))
       (on-constant-formed (within 1 3600 (scaleFor h r l) && within 1 (h .top) l) (kindAt (d .lines) (d .number))
       (and-both (within 1 3600 (scaleFor h r l)) (within 1 (h .top) l) (subst (λ (s : ℕ). T (within 1 3600 s)) (sym scale) (bits-ok (scaleAt r l) l (omega (arith, valid-bounds v .low, H .waterline .least)) (v .top) (omega arith)))
       (within-passes 1 (h .top) l (record { least = level-some r l v; most = v .top })))
-      (kind-at h t))
+      (kind-at h t)))
     where
       scale : scaleFor h r l ≡ scaleAt r l
       scale = ap (λ (z : ℤ). positive (pos (h .factor * l) -ℤ z)) (v .whole) ∙ positive-sub (h .factor * l) (positive r)

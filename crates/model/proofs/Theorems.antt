@@ -52,7 +52,6 @@ use Rattle.model.proofs.Drafts.{foundIn, Sound, Stands}
 use Rattle.model.proofs.Supplies.{Valid, scaleAt, ValidBest, foundFor}
 use Rattle.model.proofs.Lines.{Progress}
 use Rattle.model.proofs.Planned.{Whole, planned}
-use Rattle.model.proofs.Count.{plan-few}
 use Rattle.model.proofs.Least.{FitsAt, StopsAt, First, Never, Says, least-says}
 
 -- ---- the smaller statements
@@ -228,7 +227,7 @@ module _ (circuit : File) (t : T (wellFormed Circuit (circuit .header) (circuit 
             numbers = (cc both, cc both)
 
     right : ThePlan.IsRight circuit (record { header = circuit .header; lines = s })
-    right = record { passed = plan-passed; few = λ u. omega (arith, plan-few h best (circuit .lines)); best = best; runs = e; attains = attains }
+    right = record { passed = plan-passed; few = λ u. omega (arith, P .few); best = best; runs = e; attains = attains }
 
 -- a refusal is no schedule
 refused-written : {P : Type 0} (n p : ℕ) (f : File) → _≡_ {A = Planned} (refused n p) (written f) → P

@@ -48,15 +48,19 @@ renamed f (Ms a c) = Ms (f a) c
 renamed f (Us a b) = Us (f a) b
 renamed f Free = Free
 
--- fate: of the line with that value number. origins: for each line so far the kept line that it is or was made from, counted anew;
--- count: the lines kept so far.
+-- "an operand on a struck line becomes the kept line that it was made from, and values are counted anew". origins: for each line so far the
+-- kept line that it is or was made from, counted anew; count: the lines kept so far.
+abbrev pub renumbered : List ℕ → ℕ → Line → Line
+renumbered origins count x = renamed (λ a. getD origins a count) x
+
+-- fate: of the line with that value number
 module _ (fate : ℕ → Line → Fate) where
-  -- "an operand on a struck line becomes the kept line that it was made from, and values are counted anew"
+  -- the lines that stay
   abbrev pub eraseFrom : List ℕ → ℕ → List Line → List Line
   eraseFrom origins count [] = []
   eraseFrom origins count (x ∷ xs) =
       elim (fate (length origins) x) [
-        | kept ↦ renamed (λ a. getD origins a count) x ∷ eraseFrom (origins ++ (count ∷ [])) (suc count) xs
+        | kept ↦ renumbered origins count x ∷ eraseFrom (origins ++ (count ∷ [])) (suc count) xs
         | madeFrom a ↦ eraseFrom (origins ++ (getD origins a count ∷ [])) count xs
       ]
 
