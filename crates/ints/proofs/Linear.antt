@@ -5,7 +5,7 @@ use mathlib.Core.Path.{_≡_, refl, sym, ap, subst}
 use mathlib.Core.Bool.{Bool, true, false, not, cond}
 use Prim.Native.Nat.{ℕ, zero, suc, _+_, _-_, _<_, _≤_}
 use native.Mathlib.Omega.{arith}
-use lib.Dec.{T, ltb, leb, ltb→lt, nltb→le, leb→le, le→leb, lt→ltb, nleb→lt}
+use lib.Dec.{T, ltb, ltb→lt, nltb→le, leb→le, le→leb, lt→ltb, nleb→lt}
 use lib.IntN.{ℤ, pos, negsuc, negℤ, subℕ, _+ℤ_, _-ℤ_}
 use lib.Signed.{_≤ℤ_, _<ℤ_, leZ, ltZ}
 use Rattle.ints.specs.Parts.{positive, negative}
@@ -134,6 +134,13 @@ one-part (pos n) P f g = f refl
 one-part (negsuc n) P f g = g refl
 
 -- a number that is not below 0 is its positive part
+pub whole-part : (a : ℤ) → negative a ≡ 0 → a ≡ pos (positive a)
+whole-part (pos n) e = refl
+whole-part (negsuc n) e = absurd (never e)
+  where
+    never : suc n ≡ 0 → ⊥
+    never e = omega arith
+
 pub is-positive : (a : ℤ) → pos 0 ≤ℤ a → a ≡ pos (positive a)
 is-positive (pos n) h = refl
 is-positive (negsuc n) h = absurd (h .le)

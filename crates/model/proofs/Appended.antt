@@ -1,51 +1,18 @@
--- What one line more does: to a machine's run, to erasing, and to a well-formed schedule. Assumes nothing.
-use Prim.Native.Nat.{ℕ, zero, suc, _+_}
+-- What one line more does to erasing and to a well-formed schedule. Assumes nothing.
+use Prim.Native.Nat.{ℕ, suc, _+_}
 use native.Mathlib.Omega.{arith}
-use mathlib.Core.Path.{_≡_, refl, sym, ap, _∙_, subst}
-use mathlib.Core.Bool.{Bool, true, false, _&&_}
-use mathlib.Core.List.{List, [], _∷_, _++_, append-assoc, append-nil}
+use mathlib.Core.Path.{_≡_, ap, _∙_}
+use mathlib.Core.Bool.{true}
+use mathlib.Core.List.{List, [], _∷_, _++_, append-nil}
 use lib.Dec.{T}
-use lib.ListN.{length, getD, length-append}
+use lib.ListN.{length, getD}
 use Rattle.model.specs.declared.Header.{Header}
 use Rattle.model.specs.declared.Line.{Line}
 use Rattle.model.specs.declared.Grammar.{Grammar}
 use Rattle.model.specs.Files.{lineFormed, linesFormed}
-use Rattle.model.specs.Machine.{Step, goes, stops, Run, finished, stopped, Machine, step, countIn, runFrom, run}
 use Rattle.model.specs.Services.{Fate, kept, madeFrom, fateOf, renumbered, eraseFrom, originsFrom, keptFrom, erase, origins, keptLines}
-use Rattle.model.proofs.Lists.{length-snoc}
-use Rattle.model.proofs.Tests.{and-first, and-second, and-both}
-
-module _ {X E : Type 0} (M : Machine X E) where
-  -- a run that finished goes on with the next lines
-  pub record Continued (k : ℕ) (held : List X) (xs ys : List Line) (after : List X) : Type 0 where
-    pub ins : ℕ
-    pub goes-on : runFrom M k held (xs ++ ys) ≡ runFrom M ins after ys
-
-  stopped-finished : (i : ℕ) (e : E) (held : List X) → _≡_ {A = Run X E} (stopped i e) (finished held) → ⊥
-  stopped-finished i e held p = let z : _≡_ {A = ℕ} 0 1 = cc in omega arith
-
-  same-held : (held after : List X) → _≡_ {A = Run X E} (finished held) (finished after) → held ≡ after
-  same-held held after p = cc
-
-  pub continued : (xs : List Line) (k : ℕ) (held : List X) (ys : List Line) (after : List X) → runFrom M k held xs ≡ finished after → Continued k held xs ys after
-  continued [] k held ys after e = record { ins = k; goes-on = ap (λ (l : List X). runFrom M k l ys) (same-held held after e) }
-  continued (x ∷ xs) k held ys after e = go (step M k held x) e (λ v e′. continued xs (countIn x k) (held ++ (v ∷ [])) ys after e′) (λ r p. p)
-    where
-      whole : Step X E → List Line → Run X E
-      whole s zs = elim s [ goes v ↦ runFrom M (countIn x k) (held ++ (v ∷ [])) zs | stops d ↦ stopped (length held) d ]
-
-      go : (s : Step X E) → whole s xs ≡ finished after
-          → ((v : X) → runFrom M (countIn x k) (held ++ (v ∷ [])) xs ≡ finished after → Continued (countIn x k) (held ++ (v ∷ [])) xs ys after)
-          → ((r : ℕ) → whole s (xs ++ ys) ≡ runFrom M r after ys → whole (step M k held x) (xs ++ ys) ≡ runFrom M r after ys)
-          → Continued k held (x ∷ xs) ys after
-      go (stops d) p n back = absurd (stopped-finished (length held) d after p)
-      go (goes v) p n back = let c = n v p in record { ins = c .ins; goes-on = back (c .ins) (c .goes-on) }
-
-  -- one line more
-  pub run-snoc : (xs : List Line) (x : Line) {held : List X} {v : X} → run M xs ≡ finished held → ((k : ℕ) → step M k held x ≡ goes v) → run M (xs ++ (x ∷ [])) ≡ finished (held ++ (v ∷ []))
-  run-snoc xs x {held} {v} e f =
-      let c = continued xs 0 [] (x ∷ []) held e in
-      c .goes-on ∙ ap (λ (s : Step X E). elim s [ goes v ↦ finished (held ++ (v ∷ [])) | stops d ↦ stopped (length held) d ]) (f (c .ins))
+use Rattle.model.proofs.Tests.{and-both}
+use Rattle.model.proofs.Formed.{formed-append}
 
 module _ (fate : ℕ → Line → Fate) where
   -- erasing goes on with the origins and the count so far
@@ -136,12 +103,5 @@ module _ (xs : List Line) (x : Line) where
 
 -- ---- well-formed
 module _ (g : Grammar) (h : Header) where
-  pub formed-append : (xs before ys : List Line) → T (linesFormed g h before xs) → T (linesFormed g h (before ++ xs) ys) → T (linesFormed g h before (xs ++ ys))
-  formed-append [] before ys p q = subst (λ (l : List Line). T (linesFormed g h l ys)) (append-nil before) q
-  formed-append (x ∷ xs) before ys p q =
-      and-both (lineFormed g h before x) (linesFormed g h (before ++ (x ∷ [])) (xs ++ ys)) (and-first (lineFormed g h before x) (linesFormed g h (before ++ (x ∷ [])) xs) p)
-      (formed-append xs (before ++ (x ∷ [])) ys (and-second (lineFormed g h before x) (linesFormed g h (before ++ (x ∷ [])) xs) p)
-      (subst (λ (l : List Line). T (linesFormed g h l ys)) (sym (append-assoc before (x ∷ []) xs)) q))
-
   pub formed-snoc : (xs : List Line) (x : Line) → T (linesFormed g h [] xs) → T (lineFormed g h xs x) → T (linesFormed g h [] (xs ++ (x ∷ [])))
-  formed-snoc xs x p q = formed-append xs [] (x ∷ []) p (and-both (lineFormed g h xs x) true q tt)
+  formed-snoc xs x p q = formed-append g h [] xs (x ∷ []) p (and-both (lineFormed g h xs x) true q tt)

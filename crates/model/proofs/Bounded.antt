@@ -1,58 +1,76 @@
--- Where the check's test of W ≤ scale ≤ F·level passes, scale and level are whole numbers in those bounds; and where they are, it passes.
--- Assumes nothing.
-use Prim.Native.Nat.{ℕ, zero, suc, _+_, _*_, _<_, _≤_}
+-- The check's tests of a scale and a level, of a sum and of a product, each taken apart once: where it goes on, scale and level are whole numbers
+-- within W ≤ scale ≤ F·level; and where they are, it goes on. Assumes nothing.
+use Prim.Native.Nat.{ℕ, zero, suc, _+_, _*_, _<_}
 use native.Mathlib.Omega.{arith}
-use mathlib.Core.Path.{_≡_, refl, sym, ap, _∙_, subst}
-use mathlib.Core.Bool.{Bool, true, false, cond}
-use lib.Dec.{T, leb, leb→le, le→leb}
-use lib.IntN.{ℤ, pos, negsuc, negℤ, _+ℤ_, _*ℤ_}
-use lib.Signed.{_≤ℤ_, leZ}
+use mathlib.Core.Path.{_≡_, refl, _∙_}
+use mathlib.Core.Bool.{not, cond}
+use lib.Dec.{T, leb, eqb, leb→le, le→leb, eqb→eq}
+use lib.IntN.{ℤ, pos, negsuc, _+ℤ_, _*ℤ_}
+use lib.Signed.{leZ}
 use Rattle.ints.specs.Parts.{positive, negative}
-use Rattle.ints.proofs.Linear.{signed, parts+, positive-neg, negative-neg, is-positive, le-true, ≤-read}
+use Rattle.ints.proofs.Linear.{le-parts, positive-neg, whole-part}
 use Rattle.model.specs.declared.Header.{Header}
-use Rattle.model.specs.Scales.{modulus, asked, floor}
+use Rattle.model.specs.Scales.{floor}
 use Rattle.model.specs.Rules.{Bounds}
 use Rattle.model.specs.Machine.{Step, goes, stops}
-use Rattle.model.specs.Refused.{Found, bounded}
-use Rattle.model.proofs.Products.{by-test}
-
-pub passed : {X : Type 0} (b : Bool) (x y : X) → T b → cond b x y ≡ x
-passed true x y t = refl
-passed false x y t = absurd t
+use Rattle.model.specs.Refused.{Found, bounded, sum, product}
+use Rattle.model.proofs.Tests.{cond-cases, cond-true}
 
 module _ (h : Header) where
   pub bounded-goes : (found : ℕ → ℕ → Found) (s l : ℕ) → Bounds h s l → bounded h found (pos s) (pos l) ≡ goes (found s l)
   bounded-goes found s l b =
-      passed (leb (h .waterline) s) _ (stops 10) (le→leb (h .waterline) s (b .low))
-      ∙ passed (leb (s + floor h) (h .factor * l)) (goes (found s l)) (stops 9) (le→leb (s + floor h) (h .factor * l) (b .high))
+      cond-true (leb (h .waterline) s) (cond (leb (s + floor h) (h .factor * l)) (goes (found s l)) (stops 9)) (stops 10) (le→leb (h .waterline) s (b .low))
+      ∙ cond-true (leb (s + floor h) (h .factor * l)) (goes (found s l)) (stops 9) (le→leb (s + floor h) (h .factor * l) (b .high))
+
+  -- the two tests
+  abbrev pub Low : ℤ → Type 0
+  Low s = T (leZ (pos (h .waterline)) s)
+
+  abbrev pub High : ℤ → ℤ → Type 0
+  High s l = T (leZ (s +ℤ pos (floor h)) (pos (h .factor) *ℤ l))
+
+  module _ (P : Step Found ℕ → Type 0) where
+    pub bounded-cases : (found : ℕ → ℕ → Found) (s l : ℤ) → (Low s → High s l → P (goes (found (positive s) (positive l)))) → P (stops 9) → P (stops 10) → P (bounded h found s l)
+    bounded-cases found s l k nine ten =
+        cond-cases P (leZ (pos (h .waterline)) s) _ _
+        (λ t. cond-cases P (leZ (s +ℤ pos (floor h)) (pos (h .factor) *ℤ l)) _ _ (k t) (λ u. nine)) (λ t. ten)
+
+    pub sum-cases : (s l s′ l′ : ℕ) → (l ≡ l′ → s ≡ s′ → P (bounded h Found.ciphertext (pos s) (pos l))) → (T (not (eqb s s′)) → P (stops 8)) → (T (not (eqb l l′)) → P (stops 7)) → P (sum h s l s′ l′)
+    sum-cases s l s′ l′ k eight seven =
+        cond-cases P (eqb l l′) _ _ (λ t. cond-cases P (eqb s s′) _ _ (λ u. k (eqb→eq l l′ t) (eqb→eq s s′ u)) eight) seven
+
+    pub product-cases : (s l s′ l′ : ℕ) → (l ≡ l′ → P (bounded h Found.ciphertext (pos (s + s′)) (pos l))) → (T (not (eqb l l′)) → P (stops 7)) → P (product h s l s′ l′)
+    product-cases s l s′ l′ k seven = cond-cases P (eqb l l′) _ _ (λ t. k (eqb→eq l l′ t)) seven
+
+  positive-times : (l : ℤ) → positive (pos (h .factor) *ℤ l) ≡ h .factor * positive l
+  positive-times (pos l) = refl
+  positive-times (negsuc l) = omega (arith, positive-neg (pos (h .factor * suc l)))
+
+  pub tests-bound : (s l : ℤ) → Low s → High s l → Bounds h (positive s) (positive l)
+  tests-bound (negsuc s) l low high = absurd low
+  tests-bound (pos s) l low high =
+      record {
+        low = omega (arith, le-parts (pos (h .waterline)) (pos s) low);
+        high = omega (arith, le-parts (pos (s + floor h)) (pos (h .factor) *ℤ l) high, positive-times l);
+      }
+
+  -- what passes both is not below zero
+  pub record Tested (s l : ℤ) : Type 0 where
+    pub whole-scale : negative s ≡ 0
+    pub whole-level : negative l ≡ 0
+    pub bounds : Bounds h (positive s) (positive l)
 
   module _ (W⁺ : zero < h .waterline) where
-    -- a level below zero has no scale
-    level-whole : (S L : ℤ) → pos (h .waterline) ≤ℤ S → leZ (S +ℤ pos (floor h)) (pos (h .factor) *ℤ L) ≡ true → L ≡ pos (positive L)
-    level-whole S (pos l) w e = refl
-    level-whole S (negsuc l) w e = absurd (never (≤-read (pos (h .waterline)) S w) (le-true (S +ℤ pos (floor h)) (negℤ (pos (h .factor * suc l))) e))
+    pub tested : (s l : ℤ) → Low s → High s l → Tested s l
+    tested (pos s) (pos l) t u = record { whole-scale = refl; whole-level = refl; bounds = tests-bound (pos s) (pos l) t u }
+    tested (pos s) (negsuc l) t u = absurd never
       where
-        z : ℤ
-        z = S +ℤ pos (floor h)
-
-        n : ℕ
-        n = h .factor * suc l
-
-        never : h .waterline + negative S ≤ positive S + 0 → positive z + negative (negℤ (pos n)) ≤ positive (negℤ (pos n)) + negative z → ⊥
-        never p q = omega (arith, parts+ S (pos (floor h)), positive-neg (pos n), negative-neg (pos n))
+        never : ⊥
+        never = omega (arith, leb→le (h .waterline) s t, le-parts (pos (s + floor h)) (pos (h .factor) *ℤ negsuc l) u, positive-neg (pos (h .factor * suc l)))
+    tested (negsuc s) l t u = absurd t
 
     pub bounded-elim : (P : Step Found ℕ → Type 0) (found : ℕ → ℕ → Found) (S L : ℤ) → ((n : ℕ) → P (stops n))
         → ((s l : ℕ) → S ≡ pos s → L ≡ pos l → Bounds h s l → P (goes (found s l))) → P (bounded h found S L)
     bounded-elim P found S L z k =
-        by-test P (leZ (pos (h .waterline)) S) _ _
-        (λ e. by-test P (leZ (S +ℤ pos (floor h)) (pos (h .factor) *ℤ L)) _ _ (λ f. go (low e) (scale e) f (level-whole S L (low e) f)) (λ f. z 9))
-        (λ e. z 10)
-      where
-        low : leZ (pos (h .waterline)) S ≡ true → pos (h .waterline) ≤ℤ S
-        low e = record { le = subst T (sym e) tt }
-
-        scale : leZ (pos (h .waterline)) S ≡ true → S ≡ pos (positive S)
-        scale e = is-positive S (omega (signed, low e))
-
-        go : pos (h .waterline) ≤ℤ S → S ≡ pos (positive S) → leZ (S +ℤ pos (floor h)) (pos (h .factor) *ℤ L) ≡ true → L ≡ pos (positive L) → P (goes (found (positive S) (positive L)))
-        go w p f q = k (positive S) (positive L) p q (record { low = omega (arith, ≤-read (pos (h .waterline)) S w, ap negative p); high = leb→le (positive S + floor h) (h .factor * positive L) (subst T (sym f ∙ (λ i. leZ (p i +ℤ pos (floor h)) (pos (h .factor) *ℤ q i))) tt) })
+        bounded-cases P found S L
+        (λ t u. let p = tested S L t u in k (positive S) (positive L) (whole-part S (p .whole-scale)) (whole-part L (p .whole-level)) (p .bounds)) (z 9) (z 10)

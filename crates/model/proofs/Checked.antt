@@ -1,18 +1,18 @@
 -- The check's verdict is the rules: a schedule through which the check runs to the end keeps them, and through a well-formed schedule that
 -- keeps them it does. Assumes nothing.
-use Prim.Native.Nat.{ℕ, suc, _+_, _*_, _<_, _≤_}
+use Prim.Native.Nat.{ℕ, _+_, _*_, _<_}
 use native.Mathlib.Omega.{arith}
 use mathlib.Core.Path.{_≡_, refl, sym, ap, ap₂, _∙_, subst, subst₂}
 use mathlib.Core.Logic.{_↔_}
-use mathlib.Core.Bool.{not, cond, _&&_, _||_}
+use mathlib.Core.Bool.{not, _&&_, _||_}
 use mathlib.Core.List.{List, _∷_, _++_}
 use mathlib.Core.Option.{some, Option·some-injective}
-use lib.Dec.{T, leb, eqb, leb→le, le→leb, eqb→eq, T-not}
+use lib.Dec.{T, eqb, T-not}
 use lib.ListN.{length, getD, getElem?}
-use lib.IntN.{ℤ, pos, negsuc, _+ℤ_, _-ℤ_, _*ℤ_}
+use lib.IntN.{ℤ, pos, _+ℤ_, _-ℤ_, _*ℤ_}
 use lib.Signed.{leZ}
 use Rattle.ints.specs.Parts.{positive, negative}
-use Rattle.ints.proofs.Linear.{le-parts, parts-, positive-neg, ≡-goal}
+use Rattle.ints.proofs.Linear.{parts-, ≡-goal}
 use Rattle.model.specs.declared.Header.{Header}
 use Rattle.model.specs.declared.Line.{Line}
 use Rattle.model.specs.declared.Line.the-variants.{In, Const, Neg, Rot, Add, Mul, Out, Enc, Rs, Ms, Us, Free}
@@ -23,12 +23,13 @@ use Rattle.model.specs.declared.Answer.{Answer}
 use Rattle.model.specs.declared.Answer.the-variants.{Done, Refused}
 use Rattle.model.specs.Scales.{headerInRange, floor}
 use Rattle.model.specs.Files.{placeOf, isWord, inRange, isCiphertext, isConstant, isEncoded, isPair, wellFormed}
-use Rattle.model.specs.Machine.{Step, goes, stops, Run, finished, stopped, andThen, operand, step, run}
+use Rattle.model.specs.Machine.{Step, Run, finished, stopped, andThen, operand, step, run}
 use Rattle.model.specs.Rules.{Rule, Bounds, hasScale, KeepsRules}
 use Rattle.model.specs.Refused.{Found, bare, encoded, ciphertext, bounded, onBare, onCiphertext, onPair, sum, product, checkMachine, rulesAnswer}
 use Rattle.model.proofs.Lists.{found-below, found-is}
-use Rattle.model.proofs.Tests.{and-first, and-second, or-cases, or-first, or-second, cond-true, eq-passes, header-facts}
-use Rattle.model.proofs.Outcomes.{Outcome, AnyReason, NoReason, outcome-goes, outcome-cond, outcome-operand, finishes, stepped}
+use Rattle.model.proofs.Bounded.{bounded-goes, bounded-cases, sum-cases, product-cases, Tested, tested}
+use Rattle.model.proofs.Tests.{and-first, and-second, or-cases, or-first, or-second, eq-passes, header-facts}
+use Rattle.model.proofs.Outcomes.{Outcome, AnyReason, NoReason, outcome-goes, outcome-operand, finishes, stepped}
 use Rattle.model.proofs.Formed.{well-header, well-lines, line-place, Matched, Result, OnOne, OnTwo, Duty, formed-run}
 
 -- ---- what the check finds: its kind, and its numbers where it has them
@@ -82,40 +83,14 @@ module _ (A : ℕ → Type 0) (P : Found → Type 0) where
   pub on-bounded : (h : Header) (make : ℕ → ℕ → Found) (s l : ℤ)
       → (T (leZ (pos (h .waterline)) s) → T (leZ (s +ℤ pos (floor h)) (pos (h .factor) *ℤ l)) → P (make (positive s) (positive l))) → A 9 → A 10
       → Outcome A P (bounded h make s l)
-  on-bounded h make s l k nine ten =
-      outcome-cond A P (leZ (pos (h .waterline)) s) (cond (leZ (s +ℤ pos (floor h)) (pos (h .factor) *ℤ l)) (goes (make (positive s) (positive l))) (stops 9)) (stops 10)
-      (λ t. outcome-cond A P (leZ (s +ℤ pos (floor h)) (pos (h .factor) *ℤ l)) (goes (make (positive s) (positive l))) (stops 9) (k t) (λ u. nine)) (λ t. ten)
+  on-bounded h make s l k nine ten = bounded-cases h (Outcome A P) make s l k nine ten
 
   pub on-sum : (h : Header) (s l s′ l′ : ℕ) → (T (not (eqb l l′)) → A 7) → (T (not (eqb s s′)) → A 8)
       → (l ≡ l′ → s ≡ s′ → Outcome A P (bounded h ciphertext (pos s) (pos l))) → Outcome A P (sum h s l s′ l′)
-  on-sum h s l s′ l′ seven eight k =
-      outcome-cond A P (eqb l l′) (cond (eqb s s′) (bounded h ciphertext (pos s) (pos l)) (stops 8)) (stops 7)
-      (λ t. outcome-cond A P (eqb s s′) (bounded h ciphertext (pos s) (pos l)) (stops 8) (λ u. k (eqb→eq l l′ t) (eqb→eq s s′ u)) eight) seven
+  on-sum h s l s′ l′ seven eight k = sum-cases h (Outcome A P) s l s′ l′ k eight seven
 
   pub on-product : (h : Header) (s l s′ l′ : ℕ) → (T (not (eqb l l′)) → A 7) → (l ≡ l′ → Outcome A P (bounded h ciphertext (pos (s + s′)) (pos l))) → Outcome A P (product h s l s′ l′)
-  on-product h s l s′ l′ seven k = outcome-cond A P (eqb l l′) (bounded h ciphertext (pos (s + s′)) (pos l)) (stops 7) (λ t. k (eqb→eq l l′ t)) seven
-
--- ---- the tests of a scale and a level
--- what passes is not below zero, and is in bounds
-pub record Tested (h : Header) (s l : ℤ) : Type 0 where
-  pub whole-scale : negative s ≡ 0
-  pub whole-level : negative l ≡ 0
-  pub bounds : Bounds h (positive s) (positive l)
-
-pub tested : (h : Header) (s l : ℤ) → 1 ≤ h .waterline → T (leZ (pos (h .waterline)) s) → T (leZ (s +ℤ pos (floor h)) (pos (h .factor) *ℤ l)) → Tested h s l
-tested h (pos s) (pos l) w t u =
-    record { whole-scale = refl; whole-level = refl; bounds = record { low = leb→le (h .waterline) s t; high = leb→le (s + floor h) (h .factor * l) u } }
-tested h (pos s) (negsuc l) w t u = absurd never
-  where
-    never : ⊥
-    never =
-        omega (arith, leb→le (h .waterline) s t, le-parts (pos (s + floor h)) (pos (h .factor) *ℤ negsuc l) u, positive-neg (pos (h .factor * suc l)))
-tested h (negsuc s) l w t u = absurd t
-
-pub bounded-is : (h : Header) (make : ℕ → ℕ → Found) (s l : ℕ) → Bounds h s l → bounded h make (pos s) (pos l) ≡ goes (make s l)
-bounded-is h make s l b =
-    cond-true (leb (h .waterline) s) (cond (leb (s + floor h) (h .factor * l)) (goes (make s l)) (stops 9)) (stops 10) (le→leb (h .waterline) s (b .low))
-    ∙ cond-true (leb (s + floor h) (h .factor * l)) (goes (make s l)) (stops 9) (le→leb (s + floor h) (h .factor * l) (b .high))
+  on-product h s l s′ l′ seven k = product-cases h (Outcome A P) s l s′ l′ k seven
 
 -- equal numbers do not differ
 alike : (m n : ℕ) → m ≡ n → T (not (eqb m n)) → ⊥
@@ -139,7 +114,7 @@ module _ (h : Header) (in-range : T (headerInRange h)) (found : List Found) (i :
   bounded-ruled : (x : Line) (s l : ℤ) → (Tested h s l → scaleIn found i ≡ positive s → levelIn found i ≡ positive l → Rule h (scaleIn found) (levelIn found) i x)
       → Outcome AnyReason (Ruled h found i x) (bounded h ciphertext s l)
   bounded-ruled x s l k = on-bounded AnyReason (Ruled h found i x) h ciphertext s l
-      (λ t u. let p = tested h s l (header-facts h in-range .waterline .least) t u in record { in-bounds = p .bounds; bounds = λ c. p .bounds; rule = k p }) tt tt
+      (λ t u. let p = tested h (header-facts h in-range .waterline .least) s l t u in record { in-bounds = p .bounds; bounds = λ c. p .bounds; rule = k p }) tt tt
 
   module _ (ins : ℕ) (held : List Found) (among : (a : ℕ) (v : Found) → getElem? held a ≡ some v → getElem? found a ≡ some v) where
     one : (x : Line) (a : ℕ) (f : Found → Step Found ℕ) → ((v : Found) → scaleIn found a ≡ scaleOf v → levelIn found a ≡ levelOf v → Outcome AnyReason (Ruled h found i x) (f v))
@@ -177,7 +152,7 @@ module _ (h : Header) (in-range : T (headerInRange h)) (found : List Found) (i :
     ruled (Enc a s e) = one (Enc a s e) a (onBare (bounded h encoded (pos s) (pos e)))
         (λ v p q. on-bare AnyReason (Ruled h found i (Enc a s e)) (bounded h encoded (pos s) (pos e)) v (λ t. tt)
         (on-bounded AnyReason (Ruled h found i (Enc a s e)) h encoded (pos s) (pos e)
-        (λ t u. let y = tested h (pos s) (pos e) (header-facts h in-range .waterline .least) t u in record { in-bounds = y .bounds; bounds = λ c. y .bounds; rule = λ r w. (r, w) }) tt tt))
+        (λ t u. let y = tested h (header-facts h in-range .waterline .least) (pos s) (pos e) t u in record { in-bounds = y .bounds; bounds = λ c. y .bounds; rule = λ r w. (r, w) }) tt tt))
     ruled (Rs a c) = unary (Rs a c) a (λ s l. pos s -ℤ pos (h .factor * c)) (λ s l. pos l -ℤ pos c)
         (λ s l p q t r u. omega (arith, taken s (h .factor * c) (t .whole-scale), taken l c (t .whole-level)))
     ruled (Ms a c) = unary (Ms a c) a (λ s l. pos s) (λ s l. pos l -ℤ pos c) (λ s l p q t r u. omega (arith, taken l c (t .whole-level)))
@@ -244,7 +219,7 @@ module _ (h : Header) (scale level : ℕ → ℕ) where
 
     settled : (P : Found → Type 0) (make : ℕ → ℕ → Found) (s l : ℤ) → s ≡ pos (scale i) → l ≡ pos (level i) → Bounds h (scale i) (level i) → P (make (scale i) (level i))
         → Outcome NoReason P (bounded h make s l)
-    settled P make s l e f b p = outcome-goes NoReason P (bounded h make s l) (ap₂ (bounded h make) e f ∙ bounded-is h make (scale i) (level i) b) p
+    settled P make s l e f b p = outcome-goes NoReason P (bounded h make s l) (ap₂ (bounded h make) e f ∙ bounded-goes h make (scale i) (level i) b) p
 
     is-found : Bounds h (scale i) (level i) → Agrees i Ciphertext (ciphertext (scale i) (level i))
     is-found b = record { kind = refl; scale-is = λ t. refl; level-is = λ t. refl; bounds = λ t. b }

@@ -1,26 +1,24 @@
 -- A schedule that is being written: as long as each line that is added passes the check and is well formed, the whole does, and it erases to
 -- the circuit lines that were added. Assumes nothing.
-use Prim.Native.Nat.{ℕ, zero, suc, _+_, _*_, _<_, _≤_}
+use Prim.Native.Nat.{ℕ, suc, _+_, _≤_}
 use native.Mathlib.Omega.{arith}
-use mathlib.Core.Path.{_≡_, refl, sym, ap, _∙_, subst}
-use mathlib.Core.Bool.{Bool, true, false, _&&_}
+use mathlib.Core.Path.{_≡_, refl, sym, ap, _∙_}
 use mathlib.Core.List.{List, [], _∷_, _++_}
-use mathlib.Core.Option.{Option, some}
+use mathlib.Core.Option.{some}
 use lib.Dec.{T}
-use lib.ListN.{length, getD, getElem?}
+use lib.ListN.{length, getElem?}
 use Rattle.model.specs.declared.Header.{Header}
 use Rattle.model.specs.declared.Line.{Line}
 use Rattle.model.specs.declared.Line.the-variants.{Free}
 use Rattle.model.specs.declared.Grammar.the-variants.{Schedule}
 use Rattle.model.specs.declared.Kind.{Kind}
-use Rattle.model.specs.declared.Kind.the-variants.{Ciphertext, Constant, Encoded, Nothing}
 use Rattle.model.specs.Files.{kindOf, kindAt, lineFormed, linesFormed}
-use Rattle.model.specs.Machine.{Step, goes, stops, Run, finished, stopped, Machine, andThen, orAbsent, operand, step, run}
-use Rattle.model.specs.Plan.{Draft, emit, unlessZero}
-use Rattle.model.specs.Services.{Fate, kept, madeFrom, fateOf, renumbered, erase, origins, keptLines}
+use Rattle.model.specs.Machine.{goes, Run, finished, stopped, orAbsent, operand, step, run}
+use Rattle.model.specs.Services.{kept, madeFrom, fateOf, renumbered, erase, origins, keptLines}
 use Rattle.model.specs.Refused.{Found, checkMachine}
 use Rattle.model.proofs.Lists.{length-snoc, found-after, found-last, found-is}
-use Rattle.model.proofs.Appended.{run-snoc, erase-kept, origins-kept, lines-kept, erase-struck, origins-struck, lines-struck, formed-snoc}
+use Rattle.model.proofs.Runs.{run-snoc}
+use Rattle.model.proofs.Appended.{erase-kept, origins-kept, lines-kept, erase-struck, origins-struck, lines-struck, formed-snoc}
 
 module _ (h : Header) where
   -- what the check finds of the lines, where it passes them
@@ -122,7 +120,7 @@ module _ (h : Header) where
 
   -- one growth after another
   pub then : {n n′ : ℕ} {before lines after c d : List Line} {ns ms : List ℕ} {i j : ℕ} {f g : Found} {k m : Kind} {o p : ℕ}
-    → Grown n before lines c ns i f k o → Grown n′ lines after d ms j g m p → Grown (n + n′) before after d ms j g m p
+      → Grown n before lines c ns i f k o → Grown n′ lines after d ms j g m p → Grown (n + n′) before after d ms j g m p
   then a b = record { few = omega (arith, a .few, b .few); sound = b .sound; stands = b .stands; still = λ q v w u s. b .still q v w u (a .still q v w u s) }
 
   -- nothing added

@@ -1,19 +1,16 @@
 -- Erasing and machines: what a line of a schedule holds, in a machine that passes through the struck lines, is what the circuit's line
--- holds that it is or was made from. And each line of the circuit is some kept line of the schedule. Assumes nothing.
-use Prim.Native.Nat.{ℕ, zero, suc, _+_, _<_, _≤_}
-use native.Mathlib.Omega.{arith}
+-- holds that it is or was made from. Assumes nothing.
+use Prim.Native.Nat.{ℕ, zero, suc}
 use mathlib.Core.Path.{_≡_, refl, sym, ap, _∙_, subst}
 use mathlib.Core.List.{List, [], _∷_, _++_}
-use mathlib.Core.Option.{Option, none, some}
+use mathlib.Core.Option.{some}
 use lib.ListN.{length, getD, getElem?}
-use lib.IntN.{ℤ}
 use Rattle.model.specs.declared.Line.{Line}
 use Rattle.model.specs.declared.Line.the-variants.{In, Const, Neg, Rot, Add, Mul, Out, Enc, Rs, Ms, Us, Free}
-use Rattle.model.specs.declared.Kind.{Kind}
-use Rattle.model.specs.Files.{kindOf}
 use Rattle.model.specs.Machine.{Step, goes, stops, Run, finished, stopped, Machine, andThen, orAbsent, operand, step, countIn, runFrom, run}
-use Rattle.model.specs.Services.{Fate, kept, madeFrom, fateOf, renumbered, eraseFrom, originsFrom, keptFrom, erase, origins, keptLines}
-use Rattle.model.proofs.Lists.{length-snoc, found-below, found-after, found-last, All2, nil2, cons2, snoc2, map2, length2}
+use Rattle.model.specs.Services.{Fate, kept, madeFrom, fateOf, renumbered, eraseFrom, originsFrom, erase, origins}
+use Rattle.model.proofs.Runs.{stops-goes, goes-is}
+use Rattle.model.proofs.Lists.{length-snoc, found-after, found-last, All2, nil2, cons2, snoc2, map2}
 
 abbrev byWord : ℕ → Line → Fate
 byWord i x = fateOf x
@@ -103,14 +100,8 @@ module _ {X E : Type 0} (M : Machine X E) where
 
   -- a struck line holds what its operand holds
   struck-holds : {O : List ℕ} {S : List X} (R : List X) (n a : ℕ) (v : X) → All2 (Holds R) O S → andThen (operand M S a) goes ≡ goes v → getElem? R (getD O a n) ≡ some v
-  struck-holds R n a v nil2 e = absurd (stops-goes e)
-    where
-      stops-goes : _≡_ {A = Step X E} (stops (M .absent)) (goes v) → ⊥
-      stops-goes p = let z : _≡_ {A = ℕ} 0 1 = cc in omega arith
-  struck-holds R n zero v (cons2 {y = y} q t) e = q ∙ ap some (the-same e)
-    where
-      the-same : _≡_ {A = Step X E} (goes y) (goes v) → y ≡ v
-      the-same p = cc
+  struck-holds R n a v nil2 e = stops-goes e
+  struck-holds R n zero v (cons2 q t) e = q ∙ ap some (goes-is e)
   struck-holds R n (suc a) v (cons2 q t) e = struck-holds R n a v t e
 
   pub erase-run : (xs : List Line) (k : ℕ) (O : List ℕ) (n : ℕ) (R S : List X) → n ≡ length R → All2 (Holds R) O S

@@ -1,6 +1,6 @@
 -- Exactness: a schedule that the check lets pass runs to the end on the scale machine, and each of its lines then holds the numbers of the
 -- circuit that it erases to, times two to its scale. Assumes nothing.
-use Prim.Native.Nat.{ℕ, suc, _+_, _-_, _*_, _<_, _≤_}
+use Prim.Native.Nat.{ℕ, _+_, _-_, _*_, _<_, _≤_}
 use native.Mathlib.Omega.{arith}
 use mathlib.Core.Path.{_≡_, refl, sym, ap, _∙_, subst}
 use mathlib.Core.Bool.{Bool, true, false, not, cond}
@@ -8,24 +8,25 @@ use mathlib.Core.List.{List, [], map}
 use mathlib.Core.Option.{some}
 use lib.Dec.{T, eqb, eqb→eq, not-T}
 use lib.ListN.{length, getD, getElem?}
-use lib.IntN.{ℤ, pos, negsuc, negℤ, _+ℤ_, _-ℤ_, _*ℤ_}
+use lib.IntN.{ℤ, pos, negℤ, _+ℤ_, _-ℤ_, _*ℤ_}
 use lib.Signed.{leZ, ltZ, leZ-yes, ltZ-yes, clashℤ}
 use Rattle.ints.specs.Parts.{positive}
-use Rattle.ints.proofs.Linear.{le-parts, parts-, positive-neg, positive-sub}
+use Rattle.ints.proofs.Linear.{le-parts, parts-, positive-sub}
 use Rattle.model.specs.declared.Header.{Header}
 use Rattle.model.specs.declared.Line.{Line}
 use Rattle.model.specs.declared.Line.the-variants.{In, Const, Neg, Rot, Add, Mul, Out, Enc, Rs, Ms, Us, Free}
-use Rattle.model.specs.Scales.{headerInRange, floor}
+use Rattle.model.specs.Scales.{floor}
 use Rattle.model.specs.Files.{kindOf, isConstant}
 use Rattle.model.specs.Machine.{Step, goes, stops, finished, andThen, operand, step, run}
 use Rattle.model.specs.Rules.{Bounds}
 use Rattle.model.specs.Machines as machines
-use Rattle.model.specs.Machines.{Vector, Handed, Reason, levelsDiffer, scalesDiffer, belowWaterline, aboveModulus, Holding, scaled, slotwise, rotated, timesTwoTo, stopIf, holds, onScaled, scaledSum, scaledProduct, rescaled, plainMachine, scaleMachine}
+use Rattle.model.specs.Machines.{Vector, Handed, Reason, levelsDiffer, scalesDiffer, remainder, belowWaterline, aboveModulus, Holding, scaled, slotwise, rotated, timesTwoTo, overTwoTo, noRemainder, stopIf, holds, onScaled, scaledSum, scaledProduct, rescaled, plainMachine, scaleMachine}
 use Rattle.model.specs.Services.{erase, origins, keptLines}
 use Rattle.model.specs.Refused.{Found, encoded, ciphertext, bounded, onBare, onCiphertext, onPair, sum, product, checkMachine}
 use Rattle.model.specs.Demands.{ExactLine, Exact}
 use Rattle.model.proofs.Lists.{found-at, All2, length2, beside, All3, nil3, length3, between}
 use Rattle.model.proofs.Kept.{Follows, Kept, run-kept, finish}
+use Rattle.model.proofs.Bounded.{Low, High, bounded-cases, sum-cases, product-cases, tests-bound}
 use Rattle.model.proofs.EachLine.{Gives, then-gives, each-line}
 use Rattle.model.proofs.Erasing.{through, Holds, erased}
 use Rattle.model.proofs.KeptLines.{kept-line}
@@ -36,17 +37,15 @@ use Rattle.model.proofs.Vectors.{length-slotwise, length-rotated, lengt
 not-below : (a b : ℤ) → T (leZ a b) → T (not (ltZ b a))
 not-below a b t = not-T (ltZ b a) (λ u. clashℤ {a = b} {b = a} (ltZ-yes u) (leZ-yes t))
 
-positive-times : (f : ℕ) (l : ℤ) → positive (pos f *ℤ l) ≡ f * positive l
-positive-times f (pos l) = refl
-positive-times f (negsuc l) = omega (arith, positive-neg (pos (f * suc l)))
+stop-passes : (b : Bool) (e : Reason) (r : Step Holding Reason) → T (not b) → stopIf b e r ≡ r
+stop-passes true e r t = absurd t
+stop-passes false e r t = refl
 
-tests-bound : (h : Header) (s l : ℤ) → T (leZ (pos (h .waterline)) s) → T (leZ (s +ℤ pos (floor h)) (pos (h .factor) *ℤ l)) → Bounds h (positive s) (positive l)
-tests-bound h (negsuc s) l low high = absurd low
-tests-bound h (pos s) l low high =
-    record {
-      low = omega (arith, le-parts (pos (h .waterline)) (pos s) low);
-      high = omega (arith, le-parts (pos (s + floor h)) (pos (h .factor) *ℤ l) high, positive-times (h .factor) l);
-    }
+-- where the check's tests pass, the scale machine's do
+holds-goes : (h : Header) (s l : ℤ) (v : Vector) → Low h s → High h s l → holds h s l v ≡ goes (scaled (positive s) (positive l) v)
+holds-goes h s l v low high =
+    stop-passes (ltZ s (pos (h .waterline))) belowWaterline _ (not-below (pos (h .waterline)) s low)
+    ∙ stop-passes (ltZ (pos (h .factor) *ℤ l) (s +ℤ pos (floor h))) aboveModulus _ (not-below (s +ℤ pos (floor h)) (pos (h .factor) *ℤ l) high)
 
 -- ---- what the check finds, what the scale machine holds and what the plain machine holds
 module _ (H : Handed) (h : Header) where
@@ -78,29 +77,14 @@ module _ (H : Handed) (h : Header) where
   same-test true n e r t w f = f tt
   same-test false n e r t w f = tt
 
-  -- the check's test of the waterline may be taken to have passed
-  above-waterline : (found : ℕ → ℕ → Found) (s l : ℤ) (t : Step Holding Reason) (w : Vector) → (T (leZ (pos (h .waterline)) s) → InStep (bounded h found s l) t w) → InStep (bounded h found s l) t w
-  above-waterline found s l t w f = go (leZ (pos (h .waterline)) s) _ f
-    where
-      go : (b : Bool) (r : Step Found ℕ) → (T b → InStep (cond b r (stops 10)) t w) → InStep (cond b r (stops 10)) t w
-      go true r f = f tt
-      go false r f = tt
-
   -- both bound a new scale and level alike
   both-bounded : (found : ℕ → ℕ → Found) → ((s l : ℕ) (y : Holding) (w : Vector) → Times s l y w → Agree (found s l) y w) → (s l : ℤ) (v w : Vector) → Long w → v ≡ timesTwoTo (positive s) w
       → InStep (bounded h found s l) (holds h s l v) w
   both-bounded found agree s l v w long e =
-      go (leZ (pos (h .waterline)) s) (leZ (s +ℤ pos (floor h)) (pos (h .factor) *ℤ l)) (ltZ s (pos (h .waterline))) (ltZ (pos (h .factor) *ℤ l) (s +ℤ pos (floor h)))
-      (not-below (pos (h .waterline)) s) (not-below (s +ℤ pos (floor h)) (pos (h .factor) *ℤ l))
-      (λ low high. agree (positive s) (positive l) (scaled (positive s) (positive l) v) w (record { held = ap (scaled (positive s) (positive l)) e; long = long; bounds = tests-bound h s l low high }))
-    where
-      go : (b c b′ c′ : Bool) → (T b → T (not b′)) → (T c → T (not c′)) → (T b → T c → Agree (found (positive s) (positive l)) (scaled (positive s) (positive l) v) w)
-          → InStep (cond b (cond c (goes (found (positive s) (positive l))) (stops 9)) (stops 10)) (stopIf b′ belowWaterline (stopIf c′ aboveModulus (goes (scaled (positive s) (positive l) v)))) w
-      go false c b′ c′ p q f = tt
-      go true false b′ c′ p q f = tt
-      go true true true c′ p q f = absurd (p tt)
-      go true true false true p q f = absurd (q tt)
-      go true true false false p q f = f tt tt
+      bounded-cases h (λ r. InStep r (holds h s l v) w) found s l
+      (λ low high. subst (λ (t : Step Holding Reason). InStep (goes (found (positive s) (positive l))) t w) (sym (holds-goes h s l v low high))
+      (agree (positive s) (positive l) (scaled (positive s) (positive l) v) w (record { held = ap (scaled (positive s) (positive l)) e; long = long; bounds = tests-bound h s l low high })))
+      tt tt
 
   ciphertext-bounded : (s l : ℤ) (v w : Vector) → Long w → v ≡ timesTwoTo (positive s) w → InStep (bounded h ciphertext s l) (holds h s l v) w
   ciphertext-bounded = both-bounded ciphertext (λ s l y w t. t)
@@ -159,13 +143,31 @@ module _ (H : Handed) (h : Header) where
 
   -- above the waterline F·c is no more than the scale, so nothing remains
   rescaled-kept : (c s l : ℕ) (w : Vector) → Long w → InStep (bounded h ciphertext (pos s -ℤ pos (h .factor * c)) (pos l -ℤ pos c)) (rescaled h c s l (timesTwoTo s w)) w
-  rescaled-kept c s l w n = above-waterline ciphertext (pos s -ℤ pos (h .factor * c)) (pos l -ℤ pos c) (rescaled h c s l (timesTwoTo s w)) w go
+  rescaled-kept c s l w n =
+      bounded-cases h (λ r. InStep r (rescaled h c s l (timesTwoTo s w)) w) ciphertext (pos s -ℤ pos k) (pos l -ℤ pos c)
+      (λ low high. subst (λ (t : Step Holding Reason). InStep (goes (ciphertext (positive (pos s -ℤ pos k)) (positive (pos l -ℤ pos c)))) t w) (sym (goes-on low high))
+      (record { held = refl; long = n; bounds = tests-bound h (pos s -ℤ pos k) (pos l -ℤ pos c) low high }))
+      tt tt
     where
-      go : T (leZ (pos (h .waterline)) (pos s -ℤ pos (h .factor * c))) → InStep (bounded h ciphertext (pos s -ℤ pos (h .factor * c)) (pos l -ℤ pos c)) (rescaled h c s l (timesTwoTo s w)) w
-      go low =
-          let fits : h .factor * c ≤ s = omega (arith, le-parts (pos (h .waterline)) (pos s -ℤ pos (h .factor * c)) low, parts- (pos s) (pos (h .factor * c))) in
-          rw (times-apart (h .factor * c) s w fits, no-remainder (h .factor * c) (timesTwoTo (s - h .factor * c) w), over-times (h .factor * c) (timesTwoTo (s - h .factor * c) w))
-          (ciphertext-bounded (pos s -ℤ pos (h .factor * c)) (pos l -ℤ pos c) (timesTwoTo (s - h .factor * c) w) w n (ap (λ (r : ℕ). timesTwoTo r w) (sym (positive-sub s (h .factor * c)))))
+      k : ℕ
+      k = h .factor * c
+
+      fits : Low h (pos s -ℤ pos (h .factor * c)) → h .factor * c ≤ s
+      fits low = omega (arith, le-parts (pos (h .waterline)) (pos s -ℤ pos (h .factor * c)) low, parts- (pos s) (pos (h .factor * c)))
+
+      -- nothing remains, and what is left is w times two to what is left of the scale
+      divides : Low h (pos s -ℤ pos (h .factor * c)) → T (not (not (noRemainder (h .factor * c) (timesTwoTo s w))))
+      divides low = subst (λ (b : Bool). T (not (not b))) (sym (ap (noRemainder (h .factor * c)) (times-apart (h .factor * c) s w (fits low)) ∙ no-remainder (h .factor * c) (timesTwoTo (s - h .factor * c) w))) tt
+
+      quotient : Low h (pos s -ℤ pos (h .factor * c)) → overTwoTo (h .factor * c) (timesTwoTo s w) ≡ timesTwoTo (positive (pos s -ℤ pos (h .factor * c))) w
+      quotient low = ap (overTwoTo (h .factor * c)) (times-apart (h .factor * c) s w (fits low)) ∙ over-times (h .factor * c) (timesTwoTo (s - h .factor * c) w) ∙ ap (λ (r : ℕ). timesTwoTo r w) (sym (positive-sub s (h .factor * c)))
+
+      goes-on : Low h (pos s -ℤ pos (h .factor * c)) → High h (pos s -ℤ pos (h .factor * c)) (pos l -ℤ pos c)
+          → rescaled h c s l (timesTwoTo s w) ≡ goes (scaled (positive (pos s -ℤ pos (h .factor * c))) (positive (pos l -ℤ pos c)) (timesTwoTo (positive (pos s -ℤ pos (h .factor * c))) w))
+      goes-on low high =
+          stop-passes (not (noRemainder (h .factor * c) (timesTwoTo s w))) remainder _ (divides low)
+          ∙ holds-goes h (pos s -ℤ pos (h .factor * c)) (pos l -ℤ pos c) (overTwoTo (h .factor * c) (timesTwoTo s w)) low high
+          ∙ ap (λ (v : Vector). goes (scaled (positive (pos s -ℤ pos (h .factor * c))) (positive (pos l -ℤ pos c)) v)) (quotient low)
 
   agree-kept : Kept (checkMachine h) (scaleMachine H h) (through (plainMachine H)) Agree
   agree-kept =
@@ -192,10 +194,6 @@ isBare (ciphertext s l) = false
 abbrev GivesScale : Step Found ℕ → Type 0
 GivesScale r = Gives (λ found. isBare found ≡ false) r
 
-cond-scale : (b : Bool) (n : ℕ) (r : Step Found ℕ) → GivesScale r → GivesScale (cond b r (stops n))
-cond-scale true n r g = g
-cond-scale false n r g = tt
-
 on-ciphertext-scale : (f : ℕ → ℕ → Step Found ℕ) → ((s l : ℕ) → GivesScale (f s l)) → (x : Found) → GivesScale (onCiphertext f x)
 on-ciphertext-scale f g Found.bare = tt
 on-ciphertext-scale f g (encoded s l) = tt
@@ -215,7 +213,7 @@ on-bare-scale r g (ciphertext s l) = tt
 
 module _ (h : Header) where
   bounded-scale : (found : ℕ → ℕ → Found) → ((s l : ℕ) → isBare (found s l) ≡ false) → (s l : ℤ) → GivesScale (bounded h found s l)
-  bounded-scale found e s l = cond-scale (leZ (pos (h .waterline)) s) 10 _ (cond-scale (leZ (s +ℤ pos (floor h)) (pos (h .factor) *ℤ l)) 9 _ (e (positive s) (positive l)))
+  bounded-scale found e s l = bounded-cases h GivesScale found s l (λ t u. e (positive s) (positive l)) tt tt
 
   ciphertext-scale : (s l : ℤ) → GivesScale (bounded h ciphertext s l)
   ciphertext-scale = bounded-scale ciphertext (λ s l. refl)
@@ -232,8 +230,8 @@ module _ (h : Header) where
   bare-by-word (Const k) ins held = refl
   bare-by-word (Neg a) ins held = one-scale held a (λ s l. pos s) (λ s l. pos l)
   bare-by-word (Rot a t) ins held = one-scale held a (λ s l. pos s) (λ s l. pos l)
-  bare-by-word (Add a b) ins held = pair-scale held a b (sum h) (λ s l s′ l′. cond-scale (eqb l l′) 7 _ (cond-scale (eqb s s′) 8 _ (ciphertext-scale (pos s) (pos l))))
-  bare-by-word (Mul a b) ins held = pair-scale held a b (product h) (λ s l s′ l′. cond-scale (eqb l l′) 7 _ (ciphertext-scale (pos (s + s′)) (pos l)))
+  bare-by-word (Add a b) ins held = pair-scale held a b (sum h) (λ s l s′ l′. sum-cases h GivesScale s l s′ l′ (λ e e′. ciphertext-scale (pos s) (pos l)) (λ e. tt) (λ e. tt))
+  bare-by-word (Mul a b) ins held = pair-scale held a b (product h) (λ s l s′ l′. product-cases h GivesScale s l s′ l′ (λ e. ciphertext-scale (pos (s + s′)) (pos l)) (λ e. tt))
   bare-by-word (Out a) ins held = one-scale held a (λ s l. pos s) (λ s l. pos l)
   bare-by-word (Enc a s e) ins held = then-gives _ (operand (checkMachine h) held a) _ (on-bare-scale _ (bounded-scale encoded (λ s l. refl) (pos s) (pos e)))
   bare-by-word (Rs a c) ins held = one-scale held a (λ s l. pos s -ℤ pos (h .factor * c)) (λ s l. pos l -ℤ pos c)

@@ -1,17 +1,16 @@
 -- A circuit that fits at one top level fits at every higher one: each line's best reserve is at least as great there. Assumes nothing.
-use Prim.Native.Nat.{ℕ, zero, suc, _+_, _*_, _<_, _≤_}
+use Prim.Native.Nat.{ℕ, zero, _*_, _<_, _≤_}
 use native.Mathlib.Nat.{mul-le-mul-left}
-use native.Mathlib.Omega.{arith}
-use mathlib.Core.Path.{_≡_, refl, sym, ap, _∙_, subst, subst₂}
-use mathlib.Core.List.{List, []}
+use mathlib.Core.Path.{_≡_, sym, subst, subst₂}
+use mathlib.Core.List.{List}
 use lib.IntN.{ℤ, pos, _+ℤ_, _-ℤ_}
 use lib.Signed.{_≤ℤ_}
-use Rattle.ints.specs.Parts.{positive, negative}
+use Rattle.ints.specs.Parts.{positive}
 use Rattle.ints.proofs.Linear.{signed, parts+, parts-, is-positive}
 use Rattle.model.specs.declared.Header.{Header}
 use Rattle.model.specs.declared.Line.{Line}
-use Rattle.model.specs.Scales.{modulus, reserve, floor, withTop}
-use Rattle.model.specs.Machine.{Step, goes, stops, Run, finished, run}
+use Rattle.model.specs.Scales.{reserve, withTop}
+use Rattle.model.specs.Machine.{Step, goes, finished, run}
 use Rattle.model.specs.Plan.{Placement, Best, smaller, atWaterline, placeInput, placeAt, placeTimesConstant, placeConstantTimes, placeProduct, productAt, placed, onCiphertext, onReserves, bestMachine}
 use Rattle.model.proofs.Lists.{nil3}
 use Rattle.model.proofs.Kept.{Follows, Kept, run-kept, Finished, finish, idle}

@@ -1,14 +1,13 @@
 -- Machines in step: where a relation between values is kept at each word, it is kept at every line of every file. As long as the first
 -- machine goes on, the other two do. Assumes nothing.
 use Prim.Native.Nat.{ℕ, zero, suc}
-use mathlib.Core.Path.{_≡_, refl, subst, subst⁻¹}
+use mathlib.Core.Path.{_≡_, refl, subst}
 use mathlib.Core.List.{List, [], _∷_, _++_}
-use mathlib.Core.Option.{Option, none, some}
 use lib.ListN.{length, getElem?}
 use lib.IntN.{ℤ}
 use Rattle.model.specs.declared.Line.{Line}
 use Rattle.model.specs.declared.Line.the-variants.{In, Const, Neg, Rot, Add, Mul, Out, Enc, Rs, Ms, Us, Free}
-use Rattle.model.specs.Machine.{Step, goes, stops, Run, finished, stopped, Machine, andThen, orAbsent, operand, step, countIn, runFrom, run}
+use Rattle.model.specs.Machine.{Step, goes, stops, Run, finished, stopped, Machine, andThen, orAbsent, operand, step, countIn, runFrom}
 use Rattle.model.proofs.Lists.{All3, nil3, cons3, snoc3}
 
 module _ {X Y Z E D G : Type 0} where

@@ -1,39 +1,34 @@
 -- The plan's lines for one circuit line: its operands' lines, then the line itself. They keep the rules, are in range, erase to the circuit
 -- line, and the line has just the best reserve. Assumes nothing.
-use Prim.Native.Nat.{ℕ, zero, suc, _+_, _-_, _*_, _<_, _≤_}
+use Prim.Native.Nat.{ℕ, _*_, _≤_}
 use native.Mathlib.Omega.{arith}
 use mathlib.Core.Path.{_≡_, refl, sym, ap, ap₂, _∙_, subst}
-use mathlib.Core.Bool.{Bool, true, false, cond, _&&_}
+use mathlib.Core.Bool.{Bool, true, _&&_}
 use mathlib.Core.List.{List, [], _∷_, _++_}
-use mathlib.Core.Option.{Option, none, some}
-use lib.Dec.{T, eqb, eqb-refl}
+use mathlib.Core.Option.{some}
+use lib.Dec.{T}
 use lib.ListN.{length, getD, getElem?}
-use lib.IntN.{ℤ, pos, _-ℤ_}
-use lib.Signed.{_≤ℤ_}
-use Rattle.ints.specs.Parts.{positive, negative}
-use Rattle.ints.proofs.Linear.{signed, parts-, positive-sub, ≤-read, is-positive}
+use lib.IntN.{ℤ, pos}
+use Rattle.ints.proofs.Linear.{positive-sub}
 use Rattle.model.specs.declared.Header.{Header}
 use Rattle.model.specs.declared.Line.{Line}
-use Rattle.model.specs.declared.Line.the-variants.{In, Const, Neg, Rot, Add, Mul, Out, Enc, Rs, Ms, Us, Free}
-use Rattle.model.specs.declared.Grammar.the-variants.{Circuit, Schedule}
+use Rattle.model.specs.declared.Line.the-variants.{In, Const, Out, Free}
+use Rattle.model.specs.declared.Grammar.the-variants.{Schedule}
 use Rattle.model.specs.declared.Kind.{Kind}
-use Rattle.model.specs.declared.Kind.the-variants.{Ciphertext, Constant, Encoded, Nothing}
-use Rattle.model.specs.Scales.{floor}
-use Rattle.model.specs.Files.{kindOf, kindAt, isUsable, isCiphertext, isPair, inRange, operands, everyUsable, lineFormed}
-use Rattle.model.specs.Machine.{Step, goes, stops, andThen, orAbsent, operand, step}
-use Rattle.model.specs.Plan as Plan
-use Rattle.model.specs.Plan.{Draft, Placement, Best, lowestLevel, smaller, atWaterline, emit, supply, operandTo, planOne, planTwo, planLine, placementOf, placed, placeInput, placeAt, placeTimesConstant, placeConstantTimes, placeProduct, onReserves, bestMachine}
-use Rattle.model.specs.Services.{Fate, kept, fateOf, renamed, erase, origins}
+use Rattle.model.specs.declared.Kind.the-variants.{Ciphertext, Constant, Nothing}
+use Rattle.model.specs.Files.{kindOf, kindAt, isUsable, isPair, inRange, lineFormed}
+use Rattle.model.specs.Machine.{Step, goes, andThen, operand, step}
+use Rattle.model.specs.Plan.{Draft, Placement, Best, atWaterline, supply, operandTo, planOne, planTwo, placeInput, placeAt}
+use Rattle.model.specs.Services.{kept, fateOf, renamed, erase, origins}
 use Rattle.model.specs.Refused as Refused
-use Rattle.model.specs.Refused.{Found, bounded, onPair, sum, product, checkMachine}
-use Rattle.model.proofs.Tests.{and-first, and-second, and-both, cond-true, is-ciphertext, HeaderFacts}
+use Rattle.model.specs.Refused.{Found, bounded, onPair, checkMachine}
+use Rattle.model.proofs.Tests.{and-both, HeaderFacts}
 use Rattle.model.proofs.Lists.{found-at, found-is}
 use Rattle.model.proofs.Bounded.{bounded-goes}
-use Rattle.model.proofs.Placed.{placed-elim}
-use Rattle.model.proofs.Formed.{LineFacts, usable-below}
+use Rattle.model.proofs.Formed.{usable-below}
 use Rattle.model.proofs.Drafts.{foundIn, Sound, Stands, kind-at, reads, Grown, emit-kept, then, at-most}
 use Rattle.model.proofs.Supplies.{on-ciphertext-formed, Valid, scaleAt, valid-bounds, ValidBest, foundFor, kindFor, suppliedFound, suppliedKind, Reaches, supply-grown}
-use Rattle.model.proofs.Meets.{Meets, waterline-valid, meets-one, meets-sum, meets-times-constant, meets-constant-times, constant-scale, meets-product, product-scale}
+use Rattle.model.proofs.Meets.{Meets, meets-one}
 
 module _ (h : Header) (H : HeaderFacts h) where
   -- What holds when the circuit lines `done` are planned: their best values, the value numbers that they have in the schedule, its lines.

@@ -1,20 +1,20 @@
 -- Where the plan's choice for a line has at least the least reserve, its operands can be brought to the level and the reserves chosen, and the
 -- line then has just the reserve chosen. Assumes nothing.
-use Prim.Native.Nat.{ℕ, zero, suc, _+_, _-_, _*_, _<_, _≤_}
+use Prim.Native.Nat.{ℕ, zero, _+_, _*_, _<_, _≤_}
 use native.Mathlib.Omega.{arith}
-use mathlib.Core.Path.{_≡_, refl, sym, ap, _∙_, subst, subst₂}
-use mathlib.Core.Bool.{true, false}
+use mathlib.Core.Path.{_≡_, sym, ap, _∙_, subst, subst₂}
 use lib.IntN.{ℤ, pos, _+ℤ_, _-ℤ_}
 use lib.Signed.{_≤ℤ_, leZ}
 use Rattle.ints.specs.Parts.{positive, negative}
 use Rattle.ints.proofs.Linear.{signed, parts+, parts-, is-positive, positive-sub, ≤-read, ≡-read}
 use Rattle.model.specs.declared.Header.{Header}
 use Rattle.model.specs.Scales.{floor}
-use Rattle.model.specs.Plan.{Placement, Best, lowestLevel, smaller, atWaterline, placeAt, placeTimesConstant, placeConstantTimes, placeProduct, productAt}
+use Rattle.model.specs.Plan.{Placement, Best, lowestLevel, smaller, atWaterline, placeAt, placeTimesConstant, placeConstantTimes, placeProduct}
 use Rattle.model.proofs.Tests.{HeaderFacts}
 use Rattle.model.proofs.Levels.{fits, least}
-use Rattle.model.proofs.Products.{by-test, smaller-below-left, smaller-below-right, product-level, Optimal, optimal}
-use Rattle.model.proofs.Supplies.{Valid, scaleAt, ValidBest, Reaches}
+use Rattle.model.proofs.Tests.{by-test}
+use Rattle.model.proofs.Products.{smaller-below-left, smaller-below-right, product-level, Optimal, optimal}
+use Rattle.model.proofs.Supplies.{Valid, scaleAt, Reaches}
 
 module _ (h : Header) (H : HeaderFacts h) where
   F⁺ : zero < h .factor

@@ -2,16 +2,15 @@
 use Prim.Native.Nat.{ℕ, _+_, _<_, _≤_}
 use native.Mathlib.Omega.{arith}
 use mathlib.Core.Path.{_≡_, refl}
-use mathlib.Core.Bool.{true, false}
-use lib.IntN.{ℤ, pos}
+use lib.IntN.{pos}
 use lib.Signed.{_≤ℤ_, ltZ}
 use Rattle.ints.specs.Parts.{positive, negative}
-use Rattle.ints.proofs.Linear.{signed, lt-true, lt-false, ≤-read}
+use Rattle.ints.proofs.Linear.{signed, lt-true, ≤-read}
 use Rattle.model.specs.declared.Header.{Header}
 use Rattle.model.specs.Scales.{floor}
 use Rattle.model.specs.Machine.{Step, goes, stops}
 use Rattle.model.specs.Plan.{Placement, Best, placed}
-use Rattle.model.proofs.Products.{by-test}
+use Rattle.model.proofs.Tests.{by-test}
 
 module _ (h : Header) (p : Placement) where
   pub placed-goes : pos (floor h) ≤ℤ p .reserve → placed h p ≡ goes (Best.ciphertext p)

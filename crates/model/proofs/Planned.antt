@@ -1,9 +1,9 @@
 -- The plan of a circuit whose best reserves are found keeps the rules, is well formed, erases to the circuit, and each of its kept lines has
 -- just the best reserve. Assumes nothing.
-use Prim.Native.Nat.{ℕ, zero, suc, _+_, _-_, _*_, _<_, _≤_}
+use Prim.Native.Nat.{ℕ, suc, _+_, _-_, _*_, _<_, _≤_}
 use native.Mathlib.Omega.{arith}
 use mathlib.Core.Path.{_≡_, refl, sym, ap, ap₂, _∙_, subst}
-use mathlib.Core.Bool.{Bool, true, false, _&&_}
+use mathlib.Core.Bool.{true, _&&_}
 use mathlib.Core.List.{List, [], _∷_, _++_, append-assoc, append-nil}
 use mathlib.Core.Option.{Option, none, some}
 use lib.Dec.{T, eqb, eqb-refl}
@@ -11,21 +11,20 @@ use lib.ListN.{length, getD, getElem?}
 use lib.IntN.{ℤ, pos}
 use lib.Signed.{_≤ℤ_}
 use Rattle.ints.specs.Parts.{positive, negative}
-use Rattle.ints.proofs.Linear.{parts-, positive-sub, ≤-read}
+use Rattle.ints.proofs.Linear.{parts-, ≤-read}
 use Rattle.model.specs.declared.Header.{Header}
 use Rattle.model.specs.declared.Line.{Line}
 use Rattle.model.specs.declared.Line.the-variants.{In, Const, Neg, Rot, Add, Mul, Out, Enc, Rs, Ms, Us, Free}
-use Rattle.model.specs.declared.Grammar.the-variants.{Circuit, Schedule}
-use Rattle.model.specs.declared.Kind.{Kind}
-use Rattle.model.specs.declared.Kind.the-variants.{Ciphertext, Constant, Encoded, Nothing}
+use Rattle.model.specs.declared.Grammar.the-variants.{Circuit}
 use Rattle.model.specs.Scales.{floor}
-use Rattle.model.specs.Files.{kindOf, kindAt, isUsable, inRange, operands, everyUsable, lineFormed, linesFormed}
+use Rattle.model.specs.Files.{kindOf, kindAt, isUsable, inRange, everyUsable, lineFormed, linesFormed}
 use Rattle.model.specs.Machine.{Step, goes, stops, Run, finished, stopped, andThen, orAbsent, operand, step, countIn, runFrom, run}
 use Rattle.model.specs.Rules.{Bounds}
 use Rattle.model.specs.Plan.{Draft, Placement, Best, atWaterline, smaller, placeInput, placeAt, placeTimesConstant, placeConstantTimes, placeProduct, placed, onReserves, bestMachine, placementOf, planLine, planFrom, planLines}
 use Rattle.model.specs.Refused.{Found, sum, product, bounded}
 use Rattle.model.proofs.Tests.{and-first, and-second, cond-true, HeaderFacts}
 use Rattle.model.proofs.Lists.{length-snoc, found-after, found-last, found-snoc, found-is}
+use Rattle.model.proofs.Runs.{stops-goes, goes-is, stopped-finished, finished-is, kept-on}
 use Rattle.model.proofs.Bounded.{bounded-goes}
 use Rattle.model.proofs.Placed.{placed-elim}
 use Rattle.model.proofs.Formed.{LineFacts, line-facts}
@@ -36,27 +35,18 @@ use Rattle.model.proofs.Lines.{Progress, Ready, ready, two-grown, one-g
 
 module _ (h : Header) (H : HeaderFacts h) where
   -- ---- where a step of the best reserves went on
-  never : {Q : Type 0} (n : ℕ) (v : Best) → _≡_ {A = Step Best ℕ} (stops n) (goes v) → Q
-  never n v e = absurd (let z : _≡_ {A = ℕ} 0 1 = cc in omega arith)
-
   by-operand : (held : List Best) (a : ℕ) (f : Best → Step Best ℕ) {v : Best} (Q : Type 0) → andThen (operand (bestMachine h) held a) f ≡ goes v → ((b : Best) → getElem? held a ≡ some b → f b ≡ goes v → Q) → Q
   by-operand held a f {v} Q e k = go (getElem? held a) refl e
     where
       go : (o : Option Best) → getElem? held a ≡ o → andThen (orAbsent 4 o) f ≡ goes v → Q
-      go none p q = never 4 v q
+      go none p q = stops-goes q
       go (some b) p q = k b p q
 
   by-placed : (p : Placement) {v : Best} (Q : Best → Type 0) → placed h p ≡ goes v → (pos (floor h) ≤ℤ p .reserve → Q (Best.ciphertext p)) → Q v
-  by-placed p {v} Q e k = placed-elim h p (λ s. s ≡ goes v → Q v) (λ q. never 6 v q) (λ o q. subst Q (same q) (k o)) e
-    where
-      same : _≡_ {A = Step Best ℕ} (goes (Best.ciphertext p)) (goes v) → Best.ciphertext p ≡ v
-      same q = cc
+  by-placed p {v} Q e k = placed-elim h p (λ s. s ≡ goes v → Q v) (λ q. stops-goes q) (λ o q. subst Q (goes-is q) (k o)) e
 
   by-goes : {b v : Best} (Q : Best → Type 0) → _≡_ {A = Step Best ℕ} (goes b) (goes v) → Q b → Q v
-  by-goes {b} {v} Q e q = subst Q (same e) q
-    where
-      same : _≡_ {A = Step Best ℕ} (goes b) (goes v) → b ≡ v
-      same p = cc
+  by-goes Q e q = subst Q (goes-is e) q
 
   sum-goes : (s l : ℕ) → Bounds h s l → sum h s l s l ≡ goes (Found.ciphertext s l)
   sum-goes s l b = cond-true (eqb l l) _ _ (eqb-refl l) ∙ cond-true (eqb s s) _ _ (eqb-refl s) ∙ bounded-goes h Found.ciphertext s l b
@@ -96,7 +86,7 @@ module _ (h : Header) (H : HeaderFacts h) where
     -- ---- `neg` and `rot`
     one-added : (word : ℕ → Line) (a : ℕ) (b v : Best) → LineFacts Circuit h done (word a) → getElem? best a ≡ some b → T (isUsable (kindAt done a))
         → ((q : Placement) → Best.ciphertext q ≡ b → Added (word a) (Best.ciphertext (placeAt h (q .reserve)))) → Rattle.model.specs.Plan.onCiphertext (λ p. placed h (placeAt h (p .reserve))) b ≡ goes v → Added (word a) v
-    one-added word a Best.constant v L e u k s = never 5 v s
+    one-added word a Best.constant v L e u k s = stops-goes s
     one-added word a (Best.ciphertext q) v L e u k s = by-placed (placeAt h (q .reserve)) (Added (word a)) s (λ o. k q refl)
 
     neg-added : (a : ℕ) (b v : Best) → LineFacts Circuit h done (Neg a) → getElem? best a ≡ some b → T (isUsable (kindAt done a)) → Rattle.model.specs.Plan.onCiphertext (λ p. placed h (placeAt h (p .reserve))) b ≡ goes v → Added (Neg a) v
@@ -119,7 +109,7 @@ module _ (h : Header) (H : HeaderFacts h) where
 
     -- ---- `out`
     out-added : (a : ℕ) (b v : Best) → getElem? best a ≡ some b → T (isUsable (kindAt done a)) → Rattle.model.specs.Plan.onCiphertext (λ p. goes (Best.ciphertext p)) b ≡ goes v → Added (Out a) v
-    out-added a Best.constant v e u s = never 5 v s
+    out-added a Best.constant v e u s = stops-goes s
     out-added a (Best.ciphertext q) v e u s = by-goes (Added (Out a)) s
         (let r = ready h H P a (Best.ciphertext q) u e in record { valid = r .valid; kind = λ t. absurd t; grown = out-grown h H full S a q r })
 
@@ -148,7 +138,7 @@ module _ (h : Header) (H : HeaderFacts h) where
 
     add-added : (a b : ℕ) (u v w : Best) → getElem? best a ≡ some u → getElem? best b ≡ some v → Ready h H lines numbers a u → Ready h H lines numbers b v
         → onReserves (λ r r′. placed h (placeAt h (smaller r r′))) (λ r. placed h (placeAt h r)) (λ r. placed h (placeAt h r)) u v ≡ goes w → Added (Add a b) w
-    add-added a b Best.constant Best.constant w e e′ x y s = never 5 w s
+    add-added a b Best.constant Best.constant w e e′ x y s = stops-goes s
     add-added a b Best.constant (Best.ciphertext q) w e e′ x y s = by-placed (placeAt h (q .reserve)) (Added (Add a b)) s
         (λ o. let m = meets-one h H q (y .valid) in add-grown a b e e′ x y (placeAt h (q .reserve)) tt (record { first = m .first; second = m .second; own = m .own; first-reached = tt; second-reached = m .second-reached }) refl refl)
     add-added a b (Best.ciphertext q) Best.constant w e e′ x y s = by-placed (placeAt h (q .reserve)) (Added (Add a b)) s
@@ -158,7 +148,7 @@ module _ (h : Header) (H : HeaderFacts h) where
 
     mul-added : (a b : ℕ) (u v w : Best) → getElem? best a ≡ some u → getElem? best b ≡ some v → Ready h H lines numbers a u → Ready h H lines numbers b v
         → onReserves (λ r r′. placed h (placeProduct h r r′)) (λ r. placed h (placeTimesConstant h r)) (λ r. placed h (placeConstantTimes h r)) u v ≡ goes w → Added (Mul a b) w
-    mul-added a b Best.constant Best.constant w e e′ x y s = never 5 w s
+    mul-added a b Best.constant Best.constant w e e′ x y s = stops-goes s
     mul-added a b Best.constant (Best.ciphertext q) w e e′ x y s = by-placed (placeConstantTimes h (q .reserve)) (Added (Mul a b)) s
         (λ o. mul-grown a b e e′ x y (placeConstantTimes h (q .reserve)) tt (meets-constant-times h H q (y .valid) o) (turn _ _ ∙ constant-scale h H q (y .valid) o))
       where
@@ -192,19 +182,6 @@ module _ (h : Header) (H : HeaderFacts h) where
     line-added Free k v L q = absurd (L .word)
 
   -- ---- the whole circuit
-  -- a run that finishes keeps what was held
-  kept-on : (xs : List Line) (k : ℕ) (held : List Best) {full : List Best} → runFrom (bestMachine h) k held xs ≡ finished full → (a : ℕ) (b : Best) → getElem? held a ≡ some b → getElem? full a ≡ some b
-  kept-on [] k held {full} e a b p = ap (λ (l : List Best). getElem? l a) (sym (same e)) ∙ p
-    where
-      same : _≡_ {A = Run Best ℕ} (finished held) (finished full) → held ≡ full
-      same q = cc
-  kept-on (x ∷ xs) k held {full} e a b p = go (step (bestMachine h) k held x) e (λ v q. kept-on xs (countIn x k) (held ++ (v ∷ [])) q a b (found-after held (v ∷ []) a p))
-    where
-      go : (s : Step Best ℕ) → _≡_ {A = Run Best ℕ} (elim s [ goes v ↦ runFrom (bestMachine h) (countIn x k) (held ++ (v ∷ [])) xs | stops n ↦ stopped (length held) n ]) (finished full)
-          → ((v : Best) → runFrom (bestMachine h) (countIn x k) (held ++ (v ∷ [])) xs ≡ finished full → getElem? full a ≡ some b) → getElem? full a ≡ some b
-      go (goes v) q r = r v q
-      go (stops n) q r = absurd (let z : _≡_ {A = ℕ} 0 1 = cc in omega arith)
-
   module _ (full : List Best) {done lines : List Line} {best : List Best} {numbers : List ℕ} (P : Progress h H done best numbers lines) (prefix : (a : ℕ) (b : Best) → getElem? best a ≡ some b → getD full a Best.constant ≡ b) where
     -- one line more
     more : (x : Line) (v : Best) → Added full P prefix x v → Progress h H (done ++ (x ∷ [])) (best ++ (v ∷ [])) (numbers ++ (planLine h full numbers (placementOf v) x lines .number ∷ [])) (planLine h full numbers (placementOf v) x lines .lines)
@@ -261,11 +238,8 @@ module _ (h : Header) (H : HeaderFacts h) where
   planned-from [] k done best full numbers lines P t e =
       record {
         numbers = numbers;
-        progress = subst (λ (c : List Line). Progress h H c full numbers lines) (sym (append-nil done)) (subst (λ (b : List Best). Progress h H done b numbers lines) (same e) P);
+        progress = subst (λ (c : List Line). Progress h H c full numbers lines) (sym (append-nil done)) (subst (λ (b : List Best). Progress h H done b numbers lines) (finished-is e) P);
       }
-    where
-      same : _≡_ {A = Run Best ℕ} (finished best) (finished full) → best ≡ full
-      same q = cc
   planned-from (x ∷ xs) k done best full numbers lines P t e =
       go (step (bestMachine h) k best x) refl e (λ v ns ls P′ e′. planned-from xs (countIn x k) (done ++ (x ∷ [])) (best ++ (v ∷ [])) full ns ls P′ (and-second (lineFormed Circuit h done x) _ t) e′)
     where
@@ -279,17 +253,17 @@ module _ (h : Header) (H : HeaderFacts h) where
           → _≡_ {A = Run Best ℕ} (elim s [ goes v ↦ runFrom (bestMachine h) (countIn x k) (best ++ (v ∷ [])) xs | stops n ↦ stopped (length best) n ]) (finished full)
           → ((v : Best) (ns : List ℕ) (ls : List Line) → Progress h H (done ++ (x ∷ [])) (best ++ (v ∷ [])) ns ls → runFrom (bestMachine h) (countIn x k) (best ++ (v ∷ [])) xs ≡ finished full → Whole ((done ++ (x ∷ [])) ++ xs) full (planFrom h full ns ls xs))
           → Whole (done ++ (x ∷ xs)) full (planFrom h full numbers lines (x ∷ xs))
-      go (stops n) p q r = absurd (let z : _≡_ {A = ℕ} 0 1 = cc in omega arith)
+      go (stops n) p q r = stopped-finished q
       go (goes v) p q r =
           subst (λ (b : Best). Whole (done ++ (x ∷ xs)) full (planFrom h full (numbers ++ (planLine h full numbers (placementOf b) x lines .number ∷ [])) (planLine h full numbers (placementOf b) x lines .lines) xs)) (sym own)
           (subst (λ (c : List Line). Whole c full (planFrom h full (numbers ++ (d v .number ∷ [])) (d v .lines) xs)) (append-assoc done (x ∷ []) xs)
           (r v (numbers ++ (d v .number ∷ [])) (d v .lines) (more full P prefix x v (line-added full P prefix x k v L p)) q))
         where
           prefix : (a : ℕ) (b : Best) → getElem? best a ≡ some b → getD full a Best.constant ≡ b
-          prefix a b f = found-is full a Best.constant (kept-on xs (countIn x k) (best ++ (v ∷ [])) q a b (found-after best (v ∷ []) a f))
+          prefix a b f = found-is full a Best.constant (kept-on (bestMachine h) xs (countIn x k) (best ++ (v ∷ [])) q a (found-after best (v ∷ []) a f))
 
           own : getD full (length numbers) Best.constant ≡ v
-          own = ap (λ (i : ℕ). getD full i Best.constant) (P .counted ∙ sym (P .long)) ∙ found-is full (length best) Best.constant (kept-on xs (countIn x k) (best ++ (v ∷ [])) q (length best) v (found-last best v))
+          own = ap (λ (i : ℕ). getD full i Best.constant) (P .counted ∙ sym (P .long)) ∙ found-is full (length best) Best.constant (kept-on (bestMachine h) xs (countIn x k) (best ++ (v ∷ [])) q (length best) (found-last best v))
 
   pub planned : (c : List Line) {best : List Best} → T (linesFormed Circuit h [] c) → run (bestMachine h) c ≡ finished best → Whole c best (planLines h best c)
   planned c {best} t e = planned-from c 0 [] [] best [] [] start t e

@@ -1,28 +1,20 @@
 -- Document 01's cases of a product are the greatest reserve that a product can have at any level, at the lowest level that gives it; and
 -- the operands come to their reserves there, each at most that of scale W. Assumes nothing.
-use Prim.Native.Nat.{ℕ, zero, suc, _+_, _-_, _*_, _<_, _≤_, min}
+use Prim.Native.Nat.{ℕ, zero, _+_, _-_, _*_, _<_, _≤_, min}
 use native.Mathlib.Nat.{mul-le-mul-left}
-use native.Mathlib.Decide.{decLt}
 use native.Mathlib.Omega.{arith}
 use mathlib.Core.Path.{_≡_, refl, sym, ap, ap₂, _∙_, subst}
-use mathlib.Core.Bool.{Bool, true, false, not, cond}
+use mathlib.Core.Bool.{true, false}
 use mathlib.Core.Logic.{_⊎_, inl, inr}
 use lib.Dec.{T, eqb, eqb→eq, eqb-refl}
 use lib.IntN.{ℤ, pos, _+ℤ_, _-ℤ_, +ℤ-comm}
 use lib.Signed.{_≤ℤ_, _<ℤ_, leZ, ltZ}
 use Rattle.ints.specs.Parts.{positive, negative}
-use Rattle.ints.proofs.Linear.{signed, parts+, parts-, le-true, le-false, lt-true, lt-false, ≡-goal}
+use Rattle.ints.proofs.Linear.{signed, parts+, parts-, le-true, le-false, ≡-goal}
 use Rattle.model.specs.declared.Header.{Header}
 use Rattle.model.specs.Plan.{Placement, lowestLevel, smaller, atWaterline, placeUnequal, placeSame, placeBelow, greater, placeProduct, productAt}
+use Rattle.model.proofs.Tests.{by-test, below-or-not}
 use Rattle.model.proofs.Levels.{fits, short}
-
--- a test and its outcome
-pub by-test : {X : Type 0} (P : X → Type 0) (b : Bool) (x y : X) → (b ≡ true → P x) → (b ≡ false → P y) → P (cond b x y)
-by-test P true x y f g = f refl
-by-test P false x y f g = g refl
-
-pub below-or-not : (l m : ℕ) → (l < m) ⊎ (m ≤ l)
-below-or-not l m = elim (decLt l m) [ yes p ↦ inl p | no q ↦ inr (omega arith) ]
 
 -- ---- the smaller of two
 pub smaller-left : (r r′ : ℤ) → r ≤ℤ r′ → smaller r r′ ≡ r

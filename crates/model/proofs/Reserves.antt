@@ -1,33 +1,32 @@
 -- The reserve bound: in every schedule that passes the check, of any length, each ciphertext's reserve is at most the best reserve of the
 -- circuit line that it comes from, and the circuit has a best reserve at every line. Assumes nothing.
-use Prim.Native.Nat.{ℕ, zero, suc, _+_, _-_, _*_, _<_, _≤_}
+use Prim.Native.Nat.{ℕ, zero, _+_, _*_, _<_, _≤_}
 use native.Mathlib.Nat.{mul-add}
 use native.Mathlib.Omega.{arith}
-use mathlib.Core.Path.{_≡_, refl, sym, ap, ap₂, _∙_, subst}
-use mathlib.Core.Bool.{Bool, true, false}
-use mathlib.Core.List.{List, []}
+use mathlib.Core.Path.{_≡_, sym, ap, ap₂, _∙_, subst}
+use mathlib.Core.List.{List}
 use mathlib.Core.Option.{some}
-use lib.Dec.{T, eqb, eqb→eq}
 use lib.ListN.{getElem?}
 use lib.IntN.{ℤ, pos, _+ℤ_, _-ℤ_}
-use lib.Signed.{_≤ℤ_, ltZ}
+use lib.Signed.{_≤ℤ_}
 use Rattle.ints.specs.Parts.{positive, negative}
-use Rattle.ints.proofs.Linear.{signed, parts+, parts-, is-positive, ≤-read, ≡-read, lt-true}
+use Rattle.ints.proofs.Linear.{signed, parts+, parts-, is-positive, ≡-read}
 use Rattle.model.specs.declared.Header.{Header}
 use Rattle.model.specs.declared.Line.{Line}
-use Rattle.model.specs.Scales.{modulus, reserve, asked, floor}
-use Rattle.model.specs.Machine.{Step, goes, stops, Run, finished, run}
+use Rattle.model.specs.Scales.{reserve, floor}
+use Rattle.model.specs.Machine.{Step, goes, finished, run}
 use Rattle.model.specs.Rules.{Bounds}
 use Rattle.model.specs.Plan as Plan
-use Rattle.model.specs.Plan.{Placement, Best, lowestLevel, smaller, atWaterline, placeInput, placeAt, placeTimesConstant, placeConstantTimes, placeProduct, productAt, placed, onReserves, bestMachine}
+use Rattle.model.specs.Plan.{Placement, Best, smaller, atWaterline, placeInput, placeAt, placeTimesConstant, placeConstantTimes, placeProduct, productAt, placed, onReserves, bestMachine}
 use Rattle.model.specs.Services.{erase, origins}
 use Rattle.model.specs.Refused as Refused
 use Rattle.model.specs.Refused.{Found, bounded, onPair, sum, product, checkMachine}
 use Rattle.model.proofs.Lists.{nil3, front2, All2, beside, flip2}
 use Rattle.model.proofs.Kept.{Follows, Kept, run-kept, Finished, finish, idle}
-use Rattle.model.proofs.Erasing.{through, Holds, Erased, erased}
-use Rattle.model.proofs.Products.{by-test, below-smaller, smaller-mono, optimal}
-use Rattle.model.proofs.Bounded.{bounded-elim}
+use Rattle.model.proofs.Erasing.{through, Erased, erased}
+use Rattle.model.proofs.Products.{below-smaller, optimal}
+use Rattle.model.proofs.Placed.{placed-goes}
+use Rattle.model.proofs.Bounded.{sum-cases, product-cases, bounded-elim}
 
 module _ (h : Header) where
   -- a scale and a level in bounds, with no more reserve than p
@@ -55,14 +54,10 @@ module _ (h : Header) where
   whole {p} w = is-positive (p .reserve) (omega (signed, above w))
 
   reaches : (s l : ℕ) (p : Placement) → Bounds h s l → reserve h s l ≤ℤ p .reserve → Keeps (goes (Found.ciphertext s l)) (placed h p)
-  reaches s l p b a = by-test (Keeps (goes (Found.ciphertext s l))) (ltZ (p .reserve) (pos (floor h))) (stops 6) (goes (Best.ciphertext p))
-      (λ e. absurd (never (lt-true (p .reserve) (pos (floor h)) e) (≤-read (pos (floor h)) (p .reserve) (above w)))) (λ e. w)
+  reaches s l p b a = subst (Keeps (goes (Found.ciphertext s l))) (sym (placed-goes h p (above w))) w
     where
       w : Within s l p
       w = record { bounds = b; at-most = a }
-
-      never : positive (p .reserve) + 0 < floor h + negative (p .reserve) → floor h + negative (p .reserve) ≤ positive (p .reserve) + 0 → ⊥
-      never x y = omega arith
 
   module _ (F⁺ : zero < h .factor) (W⁺ : zero < h .waterline) where
     -- a line whose scale and level the check bounds
@@ -99,17 +94,15 @@ module _ (h : Header) where
       on-pair (Found.ciphertext s l) (Best.ciphertext p) z r x′ y′ z′ r′ = after-ciphertext s l p r x′ y′ z′ r′
 
     -- `neg`, `rot`, `out`: neither scale nor level changes
-    unchanged : (p : Placement) (t : Step Best ℕ) (s l : ℕ) → ((b : Bounds h s l) → Keeps (goes (Found.ciphertext s l)) t) → Keeps (bounded h Found.ciphertext (pos s) (pos l)) t
-    unchanged p t s l k = settles t (pos s) (pos l) (λ s′ l′ e e′ b. subst (λ (m : ℕ). Keeps (goes (Found.ciphertext m l′)) t) (pos-is e) (subst (λ (m : ℕ). Keeps (goes (Found.ciphertext s m)) t) (pos-is e′)
+    unchanged : (t : Step Best ℕ) (s l : ℕ) → ((b : Bounds h s l) → Keeps (goes (Found.ciphertext s l)) t) → Keeps (bounded h Found.ciphertext (pos s) (pos l)) t
+    unchanged t s l k = settles t (pos s) (pos l) (λ s′ l′ e e′ b. subst (λ (m : ℕ). Keeps (goes (Found.ciphertext m l′)) t) (pos-is e) (subst (λ (m : ℕ). Keeps (goes (Found.ciphertext s m)) t) (pos-is e′)
         (k (subst (λ (m : ℕ). Bounds h m l) (sym (pos-is e)) (subst (λ (m : ℕ). Bounds h s′ m) (sym (pos-is e′)) b)))))
 
     sums : (t : Step Best ℕ) (s l s′ l′ : ℕ) → (l ≡ l′ → s ≡ s′ → Bounds h s l → Keeps (goes (Found.ciphertext s l)) t) → Keeps (sum h s l s′ l′) t
-    sums t s l s′ l′ k = by-test (λ u. Keeps u t) (eqb l l′) _ _
-        (λ e. by-test (λ u. Keeps u t) (eqb s s′) _ _ (λ e′. unchanged (placeAt h (pos 0)) t s l (k (eqb→eq l l′ (subst T (sym e) tt)) (eqb→eq s s′ (subst T (sym e′) tt)))) (λ e′. tt))
-        (λ e. tt)
+    sums t s l s′ l′ k = sum-cases h (λ u. Keeps u t) s l s′ l′ (λ e e′. unchanged t s l (k e e′)) (λ e. tt) (λ e. tt)
 
     products : (t : Step Best ℕ) (s l s′ l′ : ℕ) → (l ≡ l′ → Bounds h (s + s′) l → Keeps (goes (Found.ciphertext (s + s′) l)) t) → Keeps (product h s l s′ l′) t
-    products t s l s′ l′ k = by-test (λ u. Keeps u t) (eqb l l′) _ _ (λ e. unchanged (placeAt h (pos 0)) t (s + s′) l (k (eqb→eq l l′ (subst T (sym e) tt)))) (λ e. tt)
+    products t s l s′ l′ k = product-cases h (λ u. Keeps u t) s l s′ l′ (λ e. unchanged t (s + s′) l (k e)) (λ e. tt)
 
     -- the parts of a reserve
     parts : (s l : ℕ) → positive (reserve h s l) + s ≡ negative (reserve h s l) + h .factor * l
@@ -187,18 +180,18 @@ module _ (h : Header) where
     encodes s e (Found.ciphertext s′ l′) y z r = tt
 
     again : (s l : ℕ) (p : Placement) → Within s l p → Keeps (bounded h Found.ciphertext (pos s) (pos l)) (placed h (placeAt h (p .reserve)))
-    again s l p w = unchanged p (placed h (placeAt h (p .reserve))) s l (λ b. reaches s l (placeAt h (p .reserve)) b (w .at-most))
+    again s l p w = unchanged (placed h (placeAt h (p .reserve))) s l (λ b. reaches s l (placeAt h (p .reserve)) b (w .at-most))
 
     pub reserves-kept : Kept (checkMachine h) (through (bestMachine h)) idle Bound
     reserves-kept =
         record {
-          input = λ k. unchanged (placeInput h) (placed h (placeInput h)) (h .waterline) (h .top) (λ b. reaches (h .waterline) (h .top) (placeInput h) b (omega signed));
+          input = λ k. unchanged (placed h (placeInput h)) (h .waterline) (h .top) (λ b. reaches (h .waterline) (h .top) (placeInput h) b (omega signed));
           constant = λ k. tt;
           neg = on-ciphertext _ (Plan.onCiphertext (λ p. placed h (placeAt h (p .reserve)))) again;
           rot = λ t. on-ciphertext _ (Plan.onCiphertext (λ p. placed h (placeAt h (p .reserve)))) again;
           add = on-pair (sum h) (λ r r′. placed h (placeAt h (smaller r r′))) (λ r. placed h (placeAt h r)) (λ r. placed h (placeAt h r)) add-both add-left add-right;
           mul = on-pair (product h) (λ r r′. placed h (placeProduct h r r′)) (λ r. placed h (placeTimesConstant h r)) (λ r. placed h (placeConstantTimes h r)) mul-both mul-left mul-right;
-          out = on-ciphertext _ (Plan.onCiphertext (λ p. goes (Best.ciphertext p))) (λ s l p w. unchanged p (goes (Best.ciphertext p)) s l (λ b. w));
+          out = on-ciphertext _ (Plan.onCiphertext (λ p. goes (Best.ciphertext p))) (λ s l p w. unchanged (goes (Best.ciphertext p)) s l (λ b. w));
           enc = encodes;
           rs = λ c. on-ciphertext _ goes (rescales c);
           ms = λ c. on-ciphertext _ goes (switches c);

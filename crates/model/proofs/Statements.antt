@@ -1,7 +1,9 @@
 -- The theorems' statements, each in a file of its own. They name only definitions of specs/ and of the libraries; Theorems has the proofs.
 pub mod LowestLevel
 pub mod Products
-pub mod Rules
+pub mod Verdict
+pub mod RuleNumbers
+pub mod Check
 pub mod Exactness
 pub mod ReserveBound
 pub mod ThePlan

@@ -1,10 +1,10 @@
 -- Bringing a value to a reserve and a level, and encoding a constant there: the lines written keep the rules, are in range, and what they make
 -- has just that scale and level. Assumes nothing.
-use Prim.Native.Nat.{ℕ, zero, suc, _+_, _-_, _*_, _/_, _<_, _≤_, min}
+use Prim.Native.Nat.{ℕ, zero, suc, _+_, _-_, _*_, _/_, _≤_, min}
 use native.Mathlib.Nat.{mul-add, mul-le-mul, mul-le-mul-right, min-le-left, div-add-mod'}
 use native.Mathlib.Omega.{arith}
 use mathlib.Core.Path.{_≡_, refl, sym, ap, ap₂, _∙_, subst}
-use mathlib.Core.Bool.{Bool, true, false, _&&_}
+use mathlib.Core.Bool.{Bool, true, _&&_}
 use mathlib.Core.List.{List, [], _∷_, _++_}
 use lib.Dec.{T}
 use lib.ListN.{length}
@@ -16,13 +16,13 @@ use Rattle.model.specs.declared.Line.{Line}
 use Rattle.model.specs.declared.Line.the-variants.{Enc, Rs, Ms, Us}
 use Rattle.model.specs.declared.Grammar.the-variants.{Schedule}
 use Rattle.model.specs.declared.Kind.{Kind}
-use Rattle.model.specs.declared.Kind.the-variants.{Ciphertext, Constant, Encoded, Nothing}
-use Rattle.model.specs.Scales.{within, modulus, floor}
+use Rattle.model.specs.declared.Kind.the-variants.{Ciphertext, Constant, Encoded}
+use Rattle.model.specs.Scales.{within, floor}
 use Rattle.model.specs.Files.{kindOf, kindAt, isUsable, isCiphertext, isConstant, lineFormed}
 use Rattle.model.specs.Machine.{Step, goes, andThen, step}
 use Rattle.model.specs.Rules.{Bounds}
-use Rattle.model.specs.Plan.{Draft, Placement, Best, unlessZero, switches, convert, bring, scaleFor, supply}
-use Rattle.model.specs.Services.{Fate, madeFrom, fateOf}
+use Rattle.model.specs.Plan.{Draft, Best, unlessZero, switches, convert, bring, scaleFor, supply}
+use Rattle.model.specs.Services.{madeFrom, fateOf}
 use Rattle.model.specs.Refused.{Found, bounded, onBare, onCiphertext, checkMachine}
 use Rattle.model.proofs.Tests.{and-both, within-passes, HeaderFacts}
 use Rattle.model.proofs.Bounded.{bounded-goes}

@@ -1,6 +1,9 @@
 -- Tests as facts: what a test that passed says, and what makes it pass. Assumes nothing.
-use Prim.Native.Nat.{ℕ, _≤_}
-use mathlib.Core.Path.{_≡_, refl, subst}
+use Prim.Native.Nat.{ℕ, _<_, _≤_}
+use native.Mathlib.Decide.{decLt}
+use native.Mathlib.Omega.{arith}
+use mathlib.Core.Path.{_≡_, refl, sym, subst}
+use mathlib.Core.Logic.{_⊎_, inl, inr}
 use mathlib.Core.Bool.{Bool, true, false, not, cond, _&&_, _||_}
 use lib.Dec.{T, leb, eqb, leb→le, le→leb, eqb-refl}
 use Rattle.model.specs.declared.Header.{Header}
@@ -36,9 +39,13 @@ or-second false b t = t
 
 -- ---- one of two by a test
 module _ {X : Type 0} where
+  -- with the test's outcome as an equation, and as a fact
+  pub by-test : (P : X → Type 0) (b : Bool) (x y : X) → (b ≡ true → P x) → (b ≡ false → P y) → P (cond b x y)
+  by-test P true x y f g = f refl
+  by-test P false x y f g = g refl
+
   pub cond-cases : (P : X → Type 0) (b : Bool) (x y : X) → (T b → P x) → (T (not b) → P y) → P (cond b x y)
-  cond-cases P true x y f g = f tt
-  cond-cases P false x y f g = g tt
+  cond-cases P b x y f g = by-test P b x y (λ e. f (subst T (sym e) tt)) (λ e. g (subst (λ (c : Bool). T (not c)) (sym e) tt))
 
   pub cond-true : (b : Bool) (x y : X) → T b → cond b x y ≡ x
   cond-true true x y t = refl
@@ -51,6 +58,9 @@ module _ {X : Type 0} where
 -- ---- equal numbers
 pub eq-passes : (m n : ℕ) → m ≡ n → T (eqb m n)
 eq-passes m n e = subst (λ (k : ℕ). T (eqb m k)) e (eqb-refl m)
+
+pub below-or-not : (l m : ℕ) → (l < m) ⊎ (m ≤ l)
+below-or-not l m = elim (decLt l m) [ yes p ↦ inl p | no q ↦ inr (omega arith) ]
 
 -- ---- ranges
 pub record Within (low high n : ℕ) : Type 0 where

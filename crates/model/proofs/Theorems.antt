@@ -1,16 +1,15 @@
 -- The theorems, each at its statement. Assumes nothing.
-use Prim.Native.Nat.{ℕ, zero, suc, _+_, _-_, _*_, _<_, _≤_}
+use Prim.Native.Nat.{ℕ, _*_, _<_, _≤_}
 use native.Mathlib.Omega.{arith}
 use mathlib.Core.Path.{_≡_, refl, sym, ap, ap₂, _∙_, subst, subst₂}
-use mathlib.Core.Bool.{Bool, true, false, _&&_, _||_}
+use mathlib.Core.Bool.{_||_}
 use mathlib.Core.List.{List, [], _∷_, _++_}
-use mathlib.Core.Option.{Option, none, some, Option·some-injective}
+use mathlib.Core.Option.{Option, none, some}
 use lib.Dec.{T}
 use lib.ListN.{length, getD, getElem?}
-use lib.IntN.{ℤ, pos, _-ℤ_}
-use lib.Signed.{_≤ℤ_}
-use Rattle.ints.specs.Parts.{positive, negative}
-use Rattle.ints.proofs.Linear.{signed, is-positive, sub-is}
+use lib.IntN.{ℤ, pos}
+use Rattle.ints.specs.Parts.{positive}
+use Rattle.ints.proofs.Linear.{is-positive, sub-is}
 use Rattle.model.specs.declared.Header.{Header}
 use Rattle.model.specs.declared.Line.{Line}
 use Rattle.model.specs.declared.Line.the-variants.{In, Const, Neg, Rot, Add, Mul, Out, Enc, Rs, Ms, Us, Free}
@@ -19,40 +18,42 @@ use Rattle.model.specs.declared.Kind.{Kind}
 use Rattle.model.specs.declared.Kind.the-variants.{Ciphertext}
 use Rattle.model.specs.declared.Answer.{Answer}
 use Rattle.model.specs.declared.Answer.the-variants.{Done, Level, Refused}
-use Rattle.model.specs.Scales.{withTop, headerInRange, reserve, modulus}
+use Rattle.model.specs.Scales.{withTop, headerInRange, reserve}
 use Rattle.model.specs.Files.{File, placeOf, wellFormed, kindOf, kindAt, isCiphertext, isEncoded, isUsable, lineFormed, linesFormed}
 use Rattle.model.specs.Machine.{Run, finished, stopped, run}
 use Rattle.model.specs.Rules.{KeepsRules}
-use Rattle.model.specs.Plan.{Placement, Best, bestMachine, placeProduct, planLines}
-use Rattle.model.specs.Services.{erase, eraseFile, origins, keptLines, Planned, written, refused, plan, leastLevel}
+use Rattle.model.specs.Plan.{Best, bestMachine, placeProduct, planLines}
+use Rattle.model.specs.Services.{origins, Planned, written, refused, plan, leastLevel}
 use Rattle.model.specs.Refused as Refused
 use Rattle.model.specs.Refused.{Found, checkMachine, rulesAnswer}
 use Rattle.model.specs.Demands.{Passed, Schedulable, IsLeastLevel}
 use Rattle.model.proofs.Statements.LowestLevel as LowestLevel
 use Rattle.model.proofs.Statements.Products as ProductStatement
-use Rattle.model.proofs.Statements.Rules as RuleStatements
+use Rattle.model.proofs.Statements.Verdict as Verdict
+use Rattle.model.proofs.Statements.RuleNumbers as RuleNumbers
+use Rattle.model.proofs.Statements.Check as Check
 use Rattle.model.proofs.Statements.Exactness as Exactness
 use Rattle.model.proofs.Statements.ReserveBound as ReserveBound
 use Rattle.model.proofs.Statements.ThePlan as ThePlan
 use Rattle.model.proofs.Statements.TooFewLevels as TooFewLevels
 use Rattle.model.proofs.Statements.HigherLevels as HigherLevels
 use Rattle.model.proofs.Statements.LeastLevel as LeastLevel
-use Rattle.model.proofs.Tests.{and-first, and-second, and-both, is-ciphertext, HeaderFacts, header-facts, header-passes, or-first}
+use Rattle.model.proofs.Tests.{and-first, and-second, and-both, is-ciphertext, HeaderFacts, header-facts, header-passes}
 use Rattle.model.proofs.Lists.{found-at, found-is}
 use Rattle.model.proofs.Levels.{level-fits, level-least}
-use Rattle.model.proofs.Products.{Optimal, optimal}
-use Rattle.model.proofs.Reserves.{Within, Bound, AtBest, Bests, reserve-bound}
+use Rattle.model.proofs.Products.{optimal}
+use Rattle.model.proofs.Reserves.{Bound, AtBest, Bests, reserve-bound}
 use Rattle.model.proofs.Higher.{fits-higher}
-use Rattle.model.proofs.Formed.{well-header, well-lines, usable-below}
+use Rattle.model.proofs.Formed.{well-header, well-lines}
 use Rattle.model.proofs.Checked.{checked-keeps, keeps-checked, keeps-agrees, verdict, Agrees, foundKind, scaleOf, levelOf}
 use Rattle.model.proofs.Reason.{only-six, only-rules}
 use Rattle.model.proofs.Compared.{passes}
 use Rattle.model.proofs.Exactly.{exact}
-use Rattle.model.proofs.Drafts.{foundIn, Sound, Stands}
-use Rattle.model.proofs.Supplies.{Valid, scaleAt, ValidBest, foundFor}
+use Rattle.model.proofs.Drafts.{Stands}
+use Rattle.model.proofs.Supplies.{Valid, scaleAt, foundFor}
 use Rattle.model.proofs.Lines.{Progress}
 use Rattle.model.proofs.Planned.{Whole, planned}
-use Rattle.model.proofs.Least.{FitsAt, StopsAt, First, Never, Says, least-says}
+use Rattle.model.proofs.Least.{StopsAt, First, Never, Says, least-says}
 
 -- ---- the smaller statements
 pub lowest-level : LowestLevel.Statement
@@ -67,7 +68,7 @@ products h t r r′ a b =
     let o = optimal h (H .factor .least) (H .waterline .least) (positive r) (positive r′) in
     record { attained = o .attained; greatest = o .greatest; lowest = o .lowest; first-is = o .first-is; second-is = o .second-is })
 
-pub rules : RuleStatements.VerdictStatement
+pub rules : Verdict.Statement
 rules = verdict
 
 refused-run : {P : Type 0} (h : Header) (s : List Line) (n p : ℕ) → rulesAnswer h s ≡ Refused n p → ((i : ℕ) → run (checkMachine h) s ≡ stopped i n → P) → P
@@ -80,10 +81,10 @@ refused-run {P} h s n p e k = go (run (checkMachine h) s) refl e
         same : Refused m (placeOf i) ≡ Refused n p → m ≡ n
         same g = cc
 
-pub rule-numbers : RuleStatements.NumbersStatement
+pub rule-numbers : RuleNumbers.Statement
 rule-numbers h s t n p e = refused-run h s n p e (λ i r. let w = only-rules h s t i n r in (w .least, w .most))
 
-pub checks : RuleStatements.CheckStatement
+pub checks : Check.Statement
 checks = passes
 
 pub exactness : Exactness.Statement

@@ -4,13 +4,10 @@ use Prim.Native.Nat.{ℕ, zero, suc, _<_}
 use native.Mathlib.Nat.{not-suc-le-zero, le-of-suc-le-suc}
 use native.Mathlib.Omega.{arith}
 use mathlib.Core.Path.{_≡_, refl, sym, ap, ap₂, _∙_}
-use mathlib.Core.Bool.{Bool, _&&_}
+use mathlib.Core.Bool.{Bool}
 use mathlib.Core.List.{List, [], _∷_, map}
 use lib.Dec.{T, lit<}
 use lib.ListN.{length, getD, drop}
-use lib.IntN.{ℤ, pos, negsuc}
-use Rattle.ints.specs.Parts.{positive, negative}
-use Rattle.model.specs.declared.Header.{Header}
 use Rattle.model.specs.declared.Line.{Line}
 use Rattle.model.specs.declared.Answer.{Answer}
 use Rattle.model.specs.declared.Answer.the-variants.{Done, Level, Refused}
@@ -19,9 +16,9 @@ use Rattle.model.specs.Files.{File, wellFormed}
 use Rattle.model.specs.Machine.{finished, stopped}
 use Rattle.model.specs.Machines.{Vector, Holding, scaled, Reason, noLine, otherWord, otherKind, levelsDiffer, scalesDiffer, remainder, belowWaterline, aboveModulus}
 use Rattle.model.specs.Services.{Planned, written, refused, plan}
-use Rattle.model.specs.Refused.{codeOf, check, sameNumbers}
+use Rattle.model.specs.Refused.{codeOf, sameNumbers}
 use Rattle.model.specs.Demands.{Passed, Schedulable}
-use Rattle.model.specs.Worked.{Outcome, answer, schedule, scaleAndLevel, unscaled, ends, endsPlain, Row, grammarOf, outcomeOf, vectorCode, holdingCode, reasonCode, outcomeCode, sameLists, rowHolds, allHold, table, row, planned, at, fourth, listing, listingPlan, listingByHand, planOutcome}
+use Rattle.model.specs.Worked.{Outcome, answer, schedule, scaleAndLevel, unscaled, ends, endsPlain, Row, grammarOf, outcomeOf, vectorCode, holdingCode, reasonCode, outcomeCode, sameLists, rowHolds, allHold, table, row, planned, at, fourth, listing, listingByHand, planOutcome}
 use Rattle.model.proofs.Tests.{and-first, and-second}
 use Rattle.model.proofs.Compared.{same-numbers, rejoined, rejoined-parts, lineOf, lineOf-code}
 use Rattle.model.proofs.Theorems.{checks, too-few-levels}

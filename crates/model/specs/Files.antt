@@ -1,12 +1,12 @@
 -- Document 01, "The two files": words, operands, kinds, ranges, and which lists of lines are circuits and schedules.
 -- No text is mentioned: a file is its header and the list of its lines.
 use Prim.Native.Nat.{ℕ, _+_}
-use mathlib.Core.Bool.{Bool, true, false, not, _&&_, _||_}
+use mathlib.Core.Bool.{Bool, true, false, _&&_, _||_}
 use mathlib.Core.List.{List, [], _∷_, _++_, map}
 use mathlib.Core.Path.{_≡_}
 use lib.Dec.{T, leb}
-use lib.ListN.{length, getD, take, drop}
-use lib.IntN.{ℤ, pos, negℤ}
+use lib.ListN.{length, getD, take}
+use lib.IntN.{pos, negℤ}
 use lib.Signed.{leZ}
 use Rattle.model.specs.declared.Header.{Header}
 use Rattle.model.specs.declared.Line.{Line}

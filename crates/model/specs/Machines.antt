@@ -1,7 +1,7 @@
 -- Document 01, "The rules of a line": the plain machine and the scale machine.
 use Prim.Native.Nat.{ℕ, zero, suc, _+_, _-_, _*_, _%_, _^_, _≤_}
 use mathlib.Core.Path.{_≡_}
-use mathlib.Core.Bool.{Bool, true, false, not, cond, _&&_}
+use mathlib.Core.Bool.{Bool, true, false, not, _&&_}
 use mathlib.Core.List.{List, [], _∷_, map}
 use lib.Dec.{eqb}
 use lib.ListN.{length, getD}
@@ -9,7 +9,7 @@ use lib.IntN.{ℤ, pos, negsuc, negℤ, natAbs, _+ℤ_, _-ℤ_, _*ℤ_}
 use lib.Signed.{ltZ, quotZ, remZ}
 use Rattle.ints.specs.Parts.{positive}
 use Rattle.model.specs.declared.Header.{Header}
-use Rattle.model.specs.Scales.{modulus, floor}
+use Rattle.model.specs.Scales.{floor}
 use Rattle.model.specs.Machine.{Step, goes, stops, Machine}
 
 -- "vectors of n whole numbers of any size and sign"

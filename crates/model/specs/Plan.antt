@@ -1,6 +1,6 @@
 -- Document 01, "The plan": the best reserve of each circuit line, how operands are brought, and the lines of the plan.
 use Prim.Native.Nat.{ℕ, zero, suc, _+_, _-_, _*_, _/_, min}
-use mathlib.Core.Bool.{Bool, true, false, cond}
+use mathlib.Core.Bool.{cond}
 use mathlib.Core.List.{List, [], _∷_, _++_}
 use lib.Dec.{eqb}
 use lib.ListN.{length, getD}
@@ -137,10 +137,14 @@ pub record Draft : Type 0 where
 abbrev pub emit : List Line → Line → Draft
 emit lines x = record { lines = lines ++ (x ∷ []); number = length lines }
 
+-- A conversion line, `enc`, `ms`, `us` or `rs`; its value is named. "each use gets its own"
+abbrev pub emitConversion : List Line → Line → Draft
+emitConversion lines x = emit lines x
+
 -- "each only if not zero"
 abbrev pub unlessZero : (ℕ → ℕ → Line) → ℕ → Draft → Draft
 unlessZero word zero d = d
-unlessZero word (suc n) d = emit (d .lines) (word (d .number) (suc n))
+unlessZero word (suc n) d = emitConversion (d .lines) (word (d .number) (suc n))
 
 -- "with d = r − r′ and q the smaller of d div F and l − l′"
 abbrev pub switches : Header → ℕ → ℕ → ℕ
@@ -161,7 +165,7 @@ scaleFor h r l = positive (pos (modulus h l) -ℤ r)
 
 -- An operand, brought to reserve r at level l; "each use gets its own `enc`".
 abbrev pub supply : Header → Best → ℤ → ℕ → Draft → Draft
-supply h constant r l draft = emit (draft .lines) (Enc (draft .number) (scaleFor h r l) l)
+supply h constant r l draft = emitConversion (draft .lines) (Enc (draft .number) (scaleFor h r l) l)
 supply h (ciphertext p) r l draft = bring h (p .reserve) (p .level) r l draft
 
 -- How a line is done, where it is a ciphertext.

@@ -1,8 +1,8 @@
 -- Document 01, "Refused, by who can cause it": an answer's numbers, and the check of a schedule with 12, and 7, 8, 10, 9 in turn.
-use Prim.Native.Nat.{ℕ, zero, suc, _+_, _*_}
+use Prim.Native.Nat.{ℕ, suc, _+_, _*_}
 use mathlib.Core.Bool.{Bool, true, false, cond, _&&_}
 use mathlib.Core.List.{List, [], _∷_}
-use lib.Dec.{leb, eqb}
+use lib.Dec.{eqb}
 use lib.IntN.{ℤ, pos, _+ℤ_, _-ℤ_, _*ℤ_}
 use lib.Signed.{leZ}
 use Rattle.ints.specs.Parts.{positive, negative}
@@ -13,7 +13,7 @@ use Rattle.model.specs.declared.Answer.{Answer}
 use Rattle.model.specs.declared.Answer.the-variants.{Done, Level, Refused}
 use Rattle.model.specs.Scales.{floor}
 use Rattle.model.specs.Files.{placeOf, File}
-use Rattle.model.specs.Machine.{Step, goes, stops, Machine, Run, finished, stopped, run}
+use Rattle.model.specs.Machine.{Step, goes, stops, Machine, finished, stopped, run}
 use Rattle.model.specs.Services.{erase}
 
 -- "A refusal is its number and place, and in a call with several files also which of them, counted from 1 in the order read, 0 with place

@@ -10,8 +10,8 @@ use Rattle.model.specs.declared.Answer.{Answer}
 use Rattle.model.specs.declared.Answer.the-variants.{Done, Level, Refused}
 use Rattle.model.specs.Scales.{withTop}
 use Rattle.model.specs.Files.{placeOf, File}
-use Rattle.model.specs.Machine.{Run, finished, stopped, run}
-use Rattle.model.specs.Plan.{Best, bestMachine, planLines}
+use Rattle.model.specs.Machine.{finished, stopped, run}
+use Rattle.model.specs.Plan.{bestMachine, planLines}
 
 -- A line stays, or is struck and was made from the line that it names.
 pub data Fate : Type 0 where

@@ -1,13 +1,13 @@
 -- Document 01, "Worked with F = 60, W = 20": its cases with * as rows of one table, and rows of our own where marked. A row is a question,
 -- its input and the outcome. A question is a service's verdict, a scale and a level, or what the scale machine comes to.
-use Prim.Native.Nat.{ℕ, _+_, _*_, _^_}
+use Prim.Native.Nat.{ℕ, _+_}
 use mathlib.Core.Path.{refl}
 use mathlib.Core.Bool.{Bool, true, false, _&&_}
 use mathlib.Core.List.{List, [], _∷_, map}
 use mathlib.Core.Option.{Option, none, some}
 use lib.Dec.{lit≤}
 use lib.ListN.{getD, getElem?}
-use lib.IntN.{ℤ, pos, negsuc, _-ℤ_, _*ℤ_}
+use lib.IntN.{ℤ, pos, negsuc, _-ℤ_}
 use Rattle.ints.specs.Parts.{positive, negative}
 use Rattle.model.specs.declared.Header.{Header}
 use Rattle.model.specs.declared.Line.{Line}

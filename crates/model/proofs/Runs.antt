@@ -1,0 +1,63 @@
+-- Steps and runs are told apart: one that stops does not go on, and what goes on has one value. A run that finishes keeps what was held, and goes
+-- on with the lines that follow. Assumes nothing.
+use Prim.Native.Nat.{ℕ}
+use native.Mathlib.Omega.{arith}
+use mathlib.Core.Path.{_≡_, sym, ap, _∙_}
+use mathlib.Core.List.{List, [], _∷_, _++_}
+use mathlib.Core.Option.{some}
+use lib.ListN.{length, getElem?}
+use Rattle.model.specs.declared.Line.{Line}
+use Rattle.model.specs.Machine.{Step, goes, stops, Run, finished, stopped, Machine, step, countIn, runFrom, run}
+use Rattle.model.proofs.Lists.{found-after}
+
+module _ {X E : Type 0} where
+  pub stops-goes : {P : Type 0} {e : E} {x : X} → _≡_ {A = Step X E} (stops e) (goes x) → P
+  stops-goes p = absurd (let z : _≡_ {A = ℕ} 0 1 = cc in omega arith)
+
+  pub goes-is : {x y : X} → _≡_ {A = Step X E} (goes x) (goes y) → x ≡ y
+  goes-is p = cc
+
+  pub stopped-finished : {P : Type 0} {i : ℕ} {e : E} {held : List X} → _≡_ {A = Run X E} (stopped i e) (finished held) → P
+  stopped-finished p = absurd (let z : _≡_ {A = ℕ} 0 1 = cc in omega arith)
+
+  pub finished-is : {held after : List X} → _≡_ {A = Run X E} (finished held) (finished after) → held ≡ after
+  finished-is p = cc
+
+  pub stopped-is : {i j : ℕ} {d e : E} → _≡_ {A = Run X E} (stopped i d) (stopped j e) → d ≡ e
+  stopped-is p = cc
+
+module _ {X E : Type 0} (M : Machine X E) where
+  -- what was held is held at the end
+  pub kept-on : (xs : List Line) (k : ℕ) (held : List X) {final : List X} → runFrom M k held xs ≡ finished final → (a : ℕ) {v : X} → getElem? held a ≡ some v → getElem? final a ≡ some v
+  kept-on [] k held e a p = ap (λ (l : List X). getElem? l a) (sym (finished-is e)) ∙ p
+  kept-on (x ∷ xs) k held {final} e a {v} p = go (step M k held x) e (λ w q. kept-on xs (countIn x k) (held ++ (w ∷ [])) q a (found-after held (w ∷ []) a p))
+    where
+      go : (s : Step X E) → _≡_ {A = Run X E} (elim s [ goes w ↦ runFrom M (countIn x k) (held ++ (w ∷ [])) xs | stops n ↦ stopped (length held) n ]) (finished final)
+          → ((w : X) → runFrom M (countIn x k) (held ++ (w ∷ [])) xs ≡ finished final → getElem? final a ≡ some v) → getElem? final a ≡ some v
+      go (goes w) q r = r w q
+      go (stops n) q r = stopped-finished q
+
+  -- a run that finished goes on with the next lines
+  pub record Continued (k : ℕ) (held : List X) (xs ys : List Line) (after : List X) : Type 0 where
+    pub ins : ℕ
+    pub goes-on : runFrom M k held (xs ++ ys) ≡ runFrom M ins after ys
+
+  pub continued : (xs : List Line) (k : ℕ) (held : List X) (ys : List Line) (after : List X) → runFrom M k held xs ≡ finished after → Continued k held xs ys after
+  continued [] k held ys after e = record { ins = k; goes-on = ap (λ (l : List X). runFrom M k l ys) (finished-is e) }
+  continued (x ∷ xs) k held ys after e = go (step M k held x) e (λ v e′. continued xs (countIn x k) (held ++ (v ∷ [])) ys after e′) (λ r p. p)
+    where
+      whole : Step X E → List Line → Run X E
+      whole s zs = elim s [ goes v ↦ runFrom M (countIn x k) (held ++ (v ∷ [])) zs | stops d ↦ stopped (length held) d ]
+
+      go : (s : Step X E) → whole s xs ≡ finished after
+          → ((v : X) → runFrom M (countIn x k) (held ++ (v ∷ [])) xs ≡ finished after → Continued (countIn x k) (held ++ (v ∷ [])) xs ys after)
+          → ((r : ℕ) → whole s (xs ++ ys) ≡ runFrom M r after ys → whole (step M k held x) (xs ++ ys) ≡ runFrom M r after ys)
+          → Continued k held (x ∷ xs) ys after
+      go (stops d) p n back = stopped-finished p
+      go (goes v) p n back = let c = n v p in record { ins = c .ins; goes-on = back (c .ins) (c .goes-on) }
+
+  -- one line more
+  pub run-snoc : (xs : List Line) (x : Line) {held : List X} {v : X} → run M xs ≡ finished held → ((k : ℕ) → step M k held x ≡ goes v) → run M (xs ++ (x ∷ [])) ≡ finished (held ++ (v ∷ []))
+  run-snoc xs x {held} {v} e f =
+      let c = continued xs 0 [] (x ∷ []) held e in
+      c .goes-on ∙ ap (λ (s : Step X E). elim s [ goes v ↦ finished (held ++ (v ∷ [])) | stops d ↦ stopped (length held) d ]) (f (c .ins))
