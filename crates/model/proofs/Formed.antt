@@ -84,6 +84,21 @@ module _ (g : Grammar) (h : Header) where
       (subst (λ (l : List Line). T (linesFormed g h l ys)) (sym (append-snoc before x xs)) u))
 
 -- a line that stands after `before` has that number
+-- the first lines of a well-formed file
+formed-take : (g : Grammar) (h : Header) (xs before : List Line) (i : ℕ) → T (linesFormed g h before xs) → T (linesFormed g h before (take i xs))
+formed-take g h [] before i t = nil-formed i
+  where
+    nil-formed : (i : ℕ) → T (linesFormed g h before (take i []))
+    nil-formed zero = tt
+    nil-formed (suc i) = tt
+formed-take g h (x ∷ xs) before zero t = tt
+formed-take g h (x ∷ xs) before (suc i) t =
+    and-both (lineFormed g h before x) (linesFormed g h (before ++ (x ∷ [])) (take i xs)) (and-first (lineFormed g h before x) (linesFormed g h (before ++ (x ∷ [])) xs) t)
+    (formed-take g h xs (before ++ (x ∷ [])) i (and-second (lineFormed g h before x) (linesFormed g h (before ++ (x ∷ [])) xs) t))
+
+pub well-take : (g : Grammar) (h : Header) (lines : List Line) (i : ℕ) → T (wellFormed g h lines) → T (wellFormed g h (take i lines))
+well-take g h lines i t = and-both (headerInRange h) (linesFormed g h [] (take i lines)) (well-header g h lines t) (formed-take g h lines [] i (well-lines g h lines t))
+
 pub record Placed (lines : List Line) (i : ℕ) (x : Line) : Type 0 where
   pub below : i < length lines
   pub is : getD lines i Free ≡ x

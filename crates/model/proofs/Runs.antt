@@ -1,14 +1,14 @@
 -- Steps and runs are told apart: one that stops does not go on, and what goes on has one value. A run that finishes keeps what was held, and goes
 -- on with the lines that follow. Assumes nothing.
-use Prim.Native.Nat.{ℕ}
+use Prim.Native.Nat.{ℕ, suc, _+_, _<_}
 use native.Mathlib.Omega.{arith}
-use mathlib.Core.Path.{_≡_, sym, ap, _∙_}
+use mathlib.Core.Path.{_≡_, refl, sym, ap, _∙_}
 use mathlib.Core.List.{List, [], _∷_, _++_}
 use mathlib.Core.Option.{some}
-use lib.ListN.{length, getElem?}
+use lib.ListN.{length, getElem?, take}
 use Rattle.model.specs.declared.Line.{Line}
 use Rattle.model.specs.Machine.{Step, goes, stops, Run, finished, stopped, Machine, step, countIn, runFrom, run}
-use Rattle.model.proofs.Lists.{found-after}
+use Rattle.model.proofs.Lists.{found-after, length-snoc}
 
 module _ {X E : Type 0} where
   pub stops-goes : {P : Type 0} {e : E} {x : X} → _≡_ {A = Step X E} (stops e) (goes x) → P
@@ -22,6 +22,9 @@ module _ {X E : Type 0} where
 
   pub finished-is : {held after : List X} → _≡_ {A = Run X E} (finished held) (finished after) → held ≡ after
   finished-is p = cc
+
+  pub stopped-line : {i j : ℕ} {d e : E} → _≡_ {A = Run X E} (stopped i d) (stopped j e) → i ≡ j
+  stopped-line p = cc
 
   pub stopped-is : {i j : ℕ} {d e : E} → _≡_ {A = Run X E} (stopped i d) (stopped j e) → d ≡ e
   stopped-is p = cc
@@ -61,3 +64,54 @@ module _ {X E : Type 0} (M : Machine X E) where
   run-snoc xs x {held} {v} e f =
       let c = continued xs 0 [] (x ∷ []) held e in
       c .goes-on ∙ ap (λ (s : Step X E). elim s [ goes v ↦ finished (held ++ (v ∷ [])) | stops d ↦ stopped (length held) d ]) (f (c .ins))
+
+  -- the line that stops: the lines before it run to the end, and with it they stop there
+  pub record StopsFirst (k : ℕ) (held : List X) (xs : List Line) (i : ℕ) (e : E) : Type 0 where
+    pub offset : ℕ
+    pub place : i ≡ length held + offset
+    pub below : offset < length xs
+    pub after : List X
+    pub before : runFrom M k held (take offset xs) ≡ finished after
+    pub with-it : runFrom M k held (take (suc offset) xs) ≡ stopped i e
+
+  stops-at : (xs : List Line) (k : ℕ) (held : List X) (i : ℕ) (e : E) → runFrom M k held xs ≡ stopped i e → StopsFirst k held xs i e
+  stops-at [] k held i e p = stopped-finished (sym p)
+  stops-at (x ∷ xs) k held i e p = go (step M k held x) p (λ v q. stops-at xs (countIn x k) (held ++ (v ∷ [])) i e q) (λ zs r q. q)
+    where
+      whole : Step X E → List Line → Run X E
+      whole s zs = elim s [ goes v ↦ runFrom M (countIn x k) (held ++ (v ∷ [])) zs | stops d ↦ stopped (length held) d ]
+
+      go : (s : Step X E) → whole s xs ≡ stopped i e
+          → ((v : X) → runFrom M (countIn x k) (held ++ (v ∷ [])) xs ≡ stopped i e → StopsFirst (countIn x k) (held ++ (v ∷ [])) xs i e)
+          → ((zs : List Line) (r : Run X E) → whole s zs ≡ r → whole (step M k held x) zs ≡ r)
+          → StopsFirst k held (x ∷ xs) i e
+      go (stops d) q n back =
+          record { offset = 0; place = omega (arith, stopped-line q); below = omega arith; after = held; before = refl; with-it = back [] (stopped i e) q }
+      go (goes v) q n back =
+          let f = n v q in
+          record {
+            offset = suc (f .offset);
+            place = omega (arith, f .place, length-snoc held v);
+            below = omega (arith, f .below);
+            after = f .after;
+            before = back (take (f .offset) xs) (finished (f .after)) (f .before);
+            with-it = back (take (suc (f .offset)) xs) (stopped i e) (f .with-it);
+          }
+
+  -- of a whole file
+  pub record FirstStop (xs : List Line) (i : ℕ) (e : E) : Type 0 where
+    pub below : i < length xs
+    pub after : List X
+    pub before : run M (take i xs) ≡ finished after
+    pub with-it : run M (take (suc i) xs) ≡ stopped i e
+
+  pub first-stop : (xs : List Line) (i : ℕ) (e : E) → run M xs ≡ stopped i e → FirstStop xs i e
+  first-stop xs i e p =
+      let f = stops-at xs 0 [] i e p in
+      let here : f .offset ≡ i = omega (arith, f .place) in
+      record {
+        below = omega (arith, f .below);
+        after = f .after;
+        before = ap (λ (j : ℕ). run M (take j xs)) (sym here) ∙ f .before;
+        with-it = ap (λ (j : ℕ). run M (take (suc j) xs)) (sym here) ∙ f .with-it;
+      }

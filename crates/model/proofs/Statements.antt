@@ -1,8 +1,9 @@
 -- The theorems' statements, each in a file of its own. They name only definitions of specs/ and of the libraries; Theorems has the proofs.
+pub mod Bounds
 pub mod LowestLevel
 pub mod Products
 pub mod Verdict
-pub mod RuleNumbers
+pub mod FirstBroken
 pub mod Check
 pub mod Exactness
 pub mod ReserveBound
@@ -10,3 +11,5 @@ pub mod ThePlan
 pub mod TooFewLevels
 pub mod HigherLevels
 pub mod LeastLevel
+pub mod DemandThree
+pub mod WorkedCases

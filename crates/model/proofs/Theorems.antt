@@ -1,12 +1,12 @@
 -- The theorems, each at its statement. Assumes nothing.
-use Prim.Native.Nat.{ℕ, _*_, _<_, _≤_}
+use Prim.Native.Nat.{ℕ, suc, _*_, _<_, _≤_}
 use native.Mathlib.Omega.{arith}
 use mathlib.Core.Path.{_≡_, refl, sym, ap, ap₂, _∙_, subst, subst₂}
 use mathlib.Core.Bool.{_||_}
 use mathlib.Core.List.{List, [], _∷_, _++_}
 use mathlib.Core.Option.{Option, none, some}
 use lib.Dec.{T}
-use lib.ListN.{length, getD, getElem?}
+use lib.ListN.{length, getD, getElem?, take}
 use lib.IntN.{ℤ, pos}
 use Rattle.ints.specs.Parts.{positive}
 use Rattle.ints.proofs.Linear.{is-positive, sub-is}
@@ -30,7 +30,9 @@ use Rattle.model.specs.Demands.{Passed, Schedulable, IsLeastLevel}
 use Rattle.model.proofs.Statements.LowestLevel as LowestLevel
 use Rattle.model.proofs.Statements.Products as ProductStatement
 use Rattle.model.proofs.Statements.Verdict as Verdict
-use Rattle.model.proofs.Statements.RuleNumbers as RuleNumbers
+use Rattle.model.proofs.Statements.FirstBroken as FirstBroken
+use Rattle.model.proofs.Statements.Bounds as BoundsStatement
+use Rattle.model.proofs.Statements.DemandThree as DemandThree
 use Rattle.model.proofs.Statements.Check as Check
 use Rattle.model.proofs.Statements.Exactness as Exactness
 use Rattle.model.proofs.Statements.ReserveBound as ReserveBound
@@ -40,14 +42,16 @@ use Rattle.model.proofs.Statements.HigherLevels as HigherLevels
 use Rattle.model.proofs.Statements.LeastLevel as LeastLevel
 use Rattle.model.proofs.Tests.{and-first, and-second, and-both, is-ciphertext, HeaderFacts, header-facts, header-passes}
 use Rattle.model.proofs.Lists.{found-at, found-is}
+use Rattle.model.proofs.Runs.{stopped-finished, first-stop}
+use Rattle.model.proofs.Floor.{floor-is}
 use Rattle.model.proofs.Levels.{level-fits, level-least}
 use Rattle.model.proofs.Products.{optimal}
 use Rattle.model.proofs.Reserves.{Bound, AtBest, Bests, reserve-bound}
 use Rattle.model.proofs.Higher.{fits-higher}
-use Rattle.model.proofs.Formed.{well-header, well-lines}
+use Rattle.model.proofs.Formed.{well-header, well-lines, well-take}
 use Rattle.model.proofs.Checked.{checked-keeps, keeps-checked, keeps-agrees, verdict, Agrees, foundKind, scaleOf, levelOf}
 use Rattle.model.proofs.Reason.{only-six, only-rules}
-use Rattle.model.proofs.Compared.{passes}
+use Rattle.model.proofs.Compared.{judges}
 use Rattle.model.proofs.Exactly.{exact}
 use Rattle.model.proofs.Drafts.{Stands}
 use Rattle.model.proofs.Supplies.{Valid, scaleAt, foundFor}
@@ -71,21 +75,39 @@ products h t r r′ a b =
 pub rules : Verdict.Statement
 rules = verdict
 
-refused-run : {P : Type 0} (h : Header) (s : List Line) (n p : ℕ) → rulesAnswer h s ≡ Refused n p → ((i : ℕ) → run (checkMachine h) s ≡ stopped i n → P) → P
+refused-run : {P : Type 0} (h : Header) (s : List Line) (n p : ℕ) → rulesAnswer h s ≡ Refused n p → ((i : ℕ) → p ≡ placeOf i → run (checkMachine h) s ≡ stopped i n → P) → P
 refused-run {P} h s n p e k = go (run (checkMachine h) s) refl e
   where
     go : (r : Run Found ℕ) → run (checkMachine h) s ≡ r → elim r [ finished found ↦ Done | stopped i m ↦ Refused m (placeOf i) ] ≡ Refused n p → P
     go (finished found) q f = absurd (let z : _≡_ {A = ℕ} 0 1 = cc in omega arith)
-    go (stopped i m) q f = k i (q ∙ ap (stopped i) (same f))
+    go (stopped i m) q f = k i (place f) (q ∙ ap (stopped i) (number f))
       where
-        same : Refused m (placeOf i) ≡ Refused n p → m ≡ n
-        same g = cc
+        number : Refused m (placeOf i) ≡ Refused n p → m ≡ n
+        number g = cc
 
-pub rule-numbers : RuleNumbers.Statement
-rule-numbers h s t n p e = refused-run h s n p e (λ i r. let w = only-rules h s t i n r in (w .least, w .most))
+        place : Refused m (placeOf i) ≡ Refused n p → p ≡ placeOf i
+        place g = cc
+
+pub first-broken : FirstBroken.Statement
+first-broken h s t n p e = refused-run h s n p e (λ i q r.
+    let f = first-stop (checkMachine h) s i n r in
+    let w = only-rules h s t i n r in
+    record {
+      line = i;
+      place-is = q;
+      below = f .below;
+      before = checked-keeps h (take i s) (well-header Schedule h s t) (f .before);
+      with-it = λ k. let c = keeps-checked h (take (suc i) s) (well-take Schedule h s (suc i) t) k in stopped-finished (sym (f .with-it) ∙ c .1);
+      least = w .least;
+      most = w .most;
+    })
+
+pub bounds-are : BoundsStatement.Statement
+bounds-are h s l =
+    (λ b. (b .low, omega (arith, b .high, floor-is h)), λ b. record { low = b .0; high = omega (arith, b .1, floor-is h) })
 
 pub checks : Check.Statement
-checks = passes
+checks = judges
 
 pub exactness : Exactness.Statement
 exactness circuit schedule p H =
@@ -228,7 +250,7 @@ module _ (circuit : File) (t : T (wellFormed Circuit (circuit .header) (circuit 
             numbers = (cc both, cc both)
 
     right : ThePlan.IsRight circuit (record { header = circuit .header; lines = s })
-    right = record { passed = plan-passed; few = λ u. omega (arith, P .few); best = best; runs = e; attains = attains }
+    right = record { passed = plan-passed; checked = judges circuit (record { header = circuit .header; lines = s }) t formed .passes .1 plan-passed; few = λ u. omega (arith, P .few); best = best; runs = e; attains = attains }
 
 -- a refusal is no schedule
 refused-written : {P : Type 0} (n p : ℕ) (f : File) → _≡_ {A = Planned} (refused n p) (written f) → P
@@ -261,6 +283,8 @@ pub too-few-levels : TooFewLevels.Statement
 too-few-levels circuit t =
     record {
       too-few-only = λ w S. let b = schedulable-fits h c S in refused-written 6 (w .place) _ (sym (w .says) ∙ plan-is circuit (finished (b .0)) (b .1));
+      first = λ w. by-run R (TooFewLevels.FirstTooFew circuit (w .place)) (λ best e. refused-written 6 (w .place) _ (sym (w .says) ∙ plan-is circuit (finished best) e))
+          (λ i n e. first (w .place) i n (refused-place (sym (w .says) ∙ plan-is circuit (stopped i n) e)) e);
       too-few-if = λ f. by-run R (TooFewLevels.SaysTooFew circuit) (λ best e. absurd (f (plan-schedulable circuit t best e))) (λ i n e. says i n e (only-six h c t i n e));
       writes-if = λ S. let b = schedulable-fits h c S in record { schedule = _; writes = plan-is circuit (finished (b .0)) (b .1) };
       writes-only = λ w. by-run R (Schedulable h c) (λ best e. plan-schedulable circuit t best e) (λ i n e. refused-written n (placeOf i) (w .schedule) (sym (plan-is circuit (stopped i n) e) ∙ w .writes));
@@ -282,6 +306,20 @@ too-few-levels circuit t =
 
     number : {n p m q : ℕ} → refused n p ≡ refused m q → n ≡ m
     number e = cc
+
+    refused-place : {n p m q : ℕ} → refused n p ≡ refused m q → p ≡ q
+    refused-place e = cc
+
+    first : (p i n : ℕ) → p ≡ placeOf i → R ≡ stopped i n → TooFewLevels.FirstTooFew circuit p
+    first p i n q e =
+        let f = first-stop (bestMachine (circuit .header)) (circuit .lines) i n e in
+        record {
+          line = i;
+          place-is = q;
+          below = f .below;
+          before = plan-schedulable (record { header = circuit .header; lines = take i (circuit .lines) }) (well-take Circuit (circuit .header) (circuit .lines) i t) (f .after) (f .before);
+          with-it = λ S. let b = schedulable-fits (circuit .header) (take (suc i) (circuit .lines)) S in stopped-finished (sym (f .with-it) ∙ b .1);
+        }
 
 -- ---- other top levels
 -- a circuit's lines do not depend on the top level
@@ -372,3 +410,13 @@ least-level circuit t =
     by-answer f Done e s = absurd s
     by-answer f (Level l) e s = absurd (f (higher-levels (withTop (circuit .header) l) (circuit .lines) (formed-at-top (circuit .header) (circuit .lines) t l (s .low) (s .high)) 60 (s .high) (omega arith) (found l s .fits)))
     by-answer f (Refused n p) e s = record { place = p; says = e ∙ ap (λ (m : ℕ). Refused m p) (none n p s .six) }
+
+-- ---- demand 3 as one claim
+pub demand-three : DemandThree.Statement
+demand-three circuit t =
+    record {
+      exact = λ schedule p H. exactness circuit schedule p H;
+      decides = too-few-levels circuit t;
+      plan-is-right = the-plan circuit t;
+      least-level = least-level circuit t;
+    }

@@ -12,13 +12,15 @@ use Rattle.model.specs.declared.Line.{Line}
 use Rattle.model.specs.declared.Answer.{Answer}
 use Rattle.model.specs.declared.Answer.the-variants.{Done, Level, Refused}
 use Rattle.model.specs.Scales.{floor}
-use Rattle.model.specs.Files.{File, wellFormed}
+use Rattle.model.specs.Files.{File}
 use Rattle.model.specs.Machine.{finished, stopped}
 use Rattle.model.specs.Machines.{Vector, Holding, scaled, Reason, noLine, otherWord, otherKind, levelsDiffer, scalesDiffer, remainder, belowWaterline, aboveModulus}
 use Rattle.model.specs.Services.{Planned, written, refused, plan}
 use Rattle.model.specs.Refused.{codeOf, sameNumbers}
 use Rattle.model.specs.Demands.{Passed, Schedulable}
-use Rattle.model.specs.Worked.{Outcome, answer, schedule, scaleAndLevel, unscaled, ends, endsPlain, Row, grammarOf, outcomeOf, vectorCode, holdingCode, reasonCode, outcomeCode, sameLists, rowHolds, allHold, table, row, planned, at, fourth, listing, listingByHand, planOutcome}
+use Rattle.model.specs.Worked.{Outcome, answer, schedule, scaleAndLevel, unscaled, ends, endsPlain, Row, inputFormed, outcomeOf, vectorCode, holdingCode, reasonCode, outcomeCode, sameLists, rowHolds, allHold, table, noRow, at, fourth, listing, listingByHand, planOutcome}
+use Rattle.model.proofs.Statements.WorkedCases as WorkedCases
+use Rattle.model.proofs.Statements.WorkedCases.{Holds}
 use Rattle.model.proofs.Tests.{and-first, and-second}
 use Rattle.model.proofs.Compared.{same-numbers, rejoined, rejoined-parts, lineOf, lineOf-code}
 use Rattle.model.proofs.Theorems.{checks, too-few-levels}
@@ -99,33 +101,26 @@ same-lists (m ∷ ms) [] t = absurd t
 same-lists (m ∷ ms) (n ∷ ns) t = ap₂ _∷_ (same-numbers m n (and-first (sameNumbers m n) (sameLists ms ns) t)) (same-lists ms ns (and-second (sameNumbers m n) (sameLists ms ns) t))
 
 -- ---- the equation at each row
-pub record Holds (r : Row) : Type 0 where
-  pub formed : T (wellFormed (grammarOf (r .question)) (r .input .header) (r .input .lines))
-  pub outcome-is : outcomeOf (r .question) (r .input) ≡ r .outcome
-
 row-holds : (r : Row) → T (rowHolds r) → Holds r
 row-holds r t =
     record {
-      formed = and-first (wellFormed (grammarOf (r .question)) (r .input .header) (r .input .lines)) same t;
+      formed = and-first (inputFormed r) same t;
       outcome-is =
           sym (outcome-back (outcomeOf (r .question) (r .input)))
-          ∙ ap outcome-from (same-lists (outcomeCode (outcomeOf (r .question) (r .input))) (outcomeCode (r .outcome)) (and-second (wellFormed (grammarOf (r .question)) (r .input .header) (r .input .lines)) same t))
+          ∙ ap outcome-from (same-lists (outcomeCode (outcomeOf (r .question) (r .input))) (outcomeCode (r .outcome)) (and-second (inputFormed r) same t))
           ∙ outcome-back (r .outcome);
     }
   where
     same : Bool
     same = sameLists (outcomeCode (outcomeOf (r .question) (r .input))) (outcomeCode (r .outcome))
 
-abbrev pub empty-row : Row
-empty-row = row (at 1 []) planned unscaled
-
-all-hold : (rows : List Row) → T (allHold rows) → (k : ℕ) → k < length rows → Holds (getD rows k empty-row)
+all-hold : (rows : List Row) → T (allHold rows) → (k : ℕ) → k < length rows → Holds (getD rows k noRow)
 all-hold [] t k u = absurd (not-suc-le-zero u)
 all-hold (r ∷ rows) t zero u = row-holds r (and-first (rowHolds r) (allHold rows) t)
 all-hold (r ∷ rows) t (suc k) u = all-hold rows (and-second (rowHolds r) (allHold rows) t) k (le-of-suc-le-suc u)
 
 -- every row of the table
-pub worked : (k : ℕ) → k < length table → Holds (getD table k empty-row)
+pub worked : WorkedCases.Statement
 worked = all-hold table tested
 
 -- ---- nothing is empty
@@ -134,7 +129,7 @@ answer-is e = cc
 
 -- row 17: a schedule written by hand passes, and it is not the plan
 pub by-hand-passes : Passed (at 2 listing) (at 2 listingByHand)
-by-hand-passes = checks (at 2 listing) (at 2 listingByHand) tt tt .0 (answer-is (worked 17 (lit< tt) .outcome-is))
+by-hand-passes = checks (at 2 listing) (at 2 listingByHand) tt tt .passes .0 (answer-is (worked 17 (lit< tt) .outcome-is))
 
 schedule-is : {a b : File} → schedule a ≡ schedule b → a ≡ b
 schedule-is e = cc

@@ -21,8 +21,9 @@ pub data Run (X E : Type 0) : Type 0 where
 -- What a machine does at each word, given what its operands hold; and the reason for stopping where an operand names no earlier line.
 pub record Machine (X E : Type 0) : Type 0 where
   pub absent : E
-  -- the number of `in` lines before this one
+  -- given how many `in` lines stand before this one
   pub input : ℕ → Step X E
+  -- given the constant number K
   pub constant : ℕ → Step X E
   pub neg : X → Step X E
   pub rot : X → ℤ → Step X E

@@ -17,8 +17,8 @@ use Rattle.model.specs.Machine.{Step, goes, stops, Machine}
 abbrev pub lowestLevel : Header → ℤ → ℕ
 lowestLevel h r = (positive (r +ℤ pos (h .waterline)) + (h .factor - 1)) / h .factor
 
--- How a ciphertext line is done: the level, the reserve that it then has, and the reserves to which its operands come at that level
--- (`in` has no operand, `out` takes its own as it is).
+-- How a ciphertext line is done: the level, the reserve that it then has, and the reserves to which its operands come at that level.
+-- The last two mean nothing for `in`, which has no operand, and for `out`, which takes its own as it is.
 pub record Placement : Type 0 where
   pub level : ℕ
   pub reserve : ℤ
@@ -154,7 +154,7 @@ switches h d levels = min (d / h .factor) levels
 abbrev pub convert : Header → ℕ → ℕ → ℕ → Draft → Draft
 convert h d levels q draft = unlessZero Rs (levels - q) (unlessZero Us (d - q * h .factor) (unlessZero Ms q draft))
 
--- "Bringing a value from (r, l) to (r′, l′)", where r′ ≤ r and l′ ≤ l
+-- "Bringing a value from (r, l) to (r′, l′)". In a plan r′ ≤ r and l′ ≤ l; otherwise the differences would be cut off at 0.
 abbrev pub bring : Header → ℤ → ℕ → ℤ → ℕ → Draft → Draft
 bring h r l r′ l′ draft =
     convert h (positive (r -ℤ r′)) (l - l′) (switches h (positive (r -ℤ r′)) (l - l′)) draft

@@ -28,7 +28,7 @@ answerPlace Done = 0
 answerPlace (Level l) = 0
 answerPlace (Refused n p) = p
 
--- file: the file that the service refuses by its lines, 1 in planning and least level, 2 in a check
+-- file: the one whose line is at fault, 1 for the circuit in planning and least level, 2 for the schedule in a check
 abbrev pub answerFile : ℕ → Answer → ℕ
 answerFile file Done = 0
 answerFile file (Level l) = 0

@@ -37,7 +37,7 @@ Rule h scale level i (Ms a c) = (scale i ≡ scale a) × (level i + c ≡ level 
 Rule h scale level i (Us a b) = (scale i ≡ scale a + b) × (level i ≡ level a)
 Rule h scale level i Free = Unit {0}
 
--- "W ≤ scale ≤ F·level"
+-- "W ≤ scale ≤ F·level": what a scale asks of the modulus is the scale, the least reserve being 0
 pub record Bounds (h : Header) (scale level : ℕ) : Type 0 where
   pub low : h .waterline ≤ scale
   pub high : asked h scale ≤ modulus h level

@@ -21,8 +21,8 @@ modulus h l = h .factor * l
 abbrev pub reserve : Header → ℕ → ℕ → ℤ
 reserve h s l = pos (modulus h l) -ℤ pos s
 
--- The least reserve that a ciphertext or an encoded constant may have. It is 0: "scale ≤ F·level" says that no reserve is below zero, and
--- a best reserve "below zero" is too few. Both sentences stand on this one definition, and no proof looks inside it.
+-- The least reserve that a ciphertext or an encoded constant may have: 0. The places that say "scale ≤ F·level", "above F·level" or "below zero"
+-- use this one definition. Only the worked cases compute it; a theorem says that with it the bounds are W ≤ scale ≤ F·level.
 unfoldable pub floor : Header → ℕ
 floor h = 0
 

@@ -53,7 +53,7 @@ renamed f Free = Free
 abbrev pub renumbered : List ℕ → ℕ → Line → Line
 renumbered origins count x = renamed (λ a. getD origins a count) x
 
--- fate: of the line with that value number
+-- fate: what becomes of the line with that value number; in erasing the word alone decides
 module _ (fate : ℕ → Line → Fate) where
   -- the lines that stay
   abbrev pub eraseFrom : List ℕ → ℕ → List Line → List Line

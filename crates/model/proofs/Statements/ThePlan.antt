@@ -1,5 +1,6 @@
 -- What the planner writes passes: it keeps the rules, its fields are in their ranges, its operands are usable earlier lines, it erases to the
--- circuit, and it fits the limit of a schedule wherever the circuit fits that of a circuit. Each of its ciphertext lines attains the best reserve.
+-- circuit, and it fits the limit of a schedule wherever the circuit fits that of a circuit. Each kept ciphertext line has the best reserve of its
+-- circuit line, at the level chosen for it.
 use Prim.Native.Nat.{ℕ, _<_, _≤_}
 use mathlib.Core.Path.{_≡_}
 use mathlib.Core.List.{List}
@@ -7,6 +8,7 @@ use mathlib.Core.Option.{some}
 use lib.Dec.{T}
 use lib.ListN.{length, getD, getElem?}
 use Rattle.model.specs.declared.Line.the-variants.{Free}
+use Rattle.model.specs.declared.Answer.the-variants.{Done}
 use Rattle.model.specs.declared.Grammar.the-variants.{Circuit, Schedule}
 use Rattle.model.specs.Scales.{reserve}
 use Rattle.model.specs.Files.{File, wellFormed, kindOf, isCiphertext, limit}
@@ -14,6 +16,7 @@ use Rattle.model.specs.Machine.{finished, run}
 use Rattle.model.specs.Rules.{KeepsRules}
 use Rattle.model.specs.Plan.{Placement, Best, bestMachine}
 use Rattle.model.specs.Services.{written, plan, keptLines}
+use Rattle.model.specs.Refused.{check}
 use Rattle.model.specs.Demands.{Passed}
 
 -- the kept line of circuit line j has the best reserve of that line, at the level chosen for it
@@ -27,6 +30,7 @@ pub record AttainsBest (schedule : File) (keeps : KeepsRules (schedule .header) 
 
 pub record IsRight (circuit schedule : File) : Type 0 where
   pub passed : Passed circuit schedule
+  pub checked : check circuit schedule ≡ Done
   pub few : length (circuit .lines) ≤ limit Circuit → length (schedule .lines) ≤ limit Schedule
   pub best : List Best
   pub runs : run (bestMachine (circuit .header)) (circuit .lines) ≡ finished best
