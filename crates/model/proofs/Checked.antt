@@ -97,7 +97,7 @@ alike : (m n : ℕ) → m ≡ n → T (not (eqb m n)) → ⊥
 alike m n e t = T-not (eqb m n) t (eq-passes m n e)
 
 -- a difference that is not below zero
-taken : (a b : ℕ) → negative (pos a -ℤ pos b) ≡ 0 → positive (pos a -ℤ pos b) + b ≡ a
+pub taken : (a b : ℕ) → negative (pos a -ℤ pos b) ≡ 0 → positive (pos a -ℤ pos b) + b ≡ a
 taken a b z = omega (arith, parts- (pos a) (pos b))
 
 left-over : (a b c : ℕ) → c + b ≡ a → pos a -ℤ pos b ≡ pos c

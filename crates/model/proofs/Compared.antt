@@ -102,6 +102,14 @@ refused-place e = cc
 refused-level : (n p l : ℕ) → Refused n p ≡ Level l → ⊥
 refused-level n p l e = let z : _≡_ {A = ℕ} 0 1 = cc in omega arith
 
+pub compared-done : (n : ℕ) (xs ys : List Line) (otherwise : Answer) → compared n xs ys otherwise ≡ Done → (xs ≡ ys) × (otherwise ≡ Done)
+compared-done n [] [] o e = (refl, e)
+compared-done n [] (y ∷ ys) o e = refused-done 12 (placeOf n) e
+compared-done n (x ∷ xs) [] o e = refused-done 12 (placeOf n) e
+compared-done n (x ∷ xs) (y ∷ ys) o e =
+    cond-cases (λ (a : Answer). a ≡ Done → (x ∷ xs ≡ y ∷ ys) × (o ≡ Done)) (sameLine x y) (compared (suc n) xs ys o) (Refused 12 (placeOf n))
+    (λ t f. let r = compared-done (suc n) xs ys o f in (ap₂ _∷_ (same-line x y t) (r .0), r .1)) (λ t f. refused-done 12 (placeOf n) f) e
+
 -- no level is given
 rules-level : (h : Header) (s : List Line) (l : ℕ) → rulesAnswer h s ≡ Level l → ⊥
 rules-level h s l e = go (run (checkMachine h) s) e
@@ -116,14 +124,6 @@ compared-level n [] (y ∷ ys) o l f e = refused-level 12 (placeOf n) l e
 compared-level n (x ∷ xs) [] o l f e = refused-level 12 (placeOf n) l e
 compared-level n (x ∷ xs) (y ∷ ys) o l f e =
     cond-cases (λ (a : Answer). a ≡ Level l → ⊥) (sameLine x y) (compared (suc n) xs ys o) (Refused 12 (placeOf n)) (λ t. compared-level (suc n) xs ys o l f) (λ t. refused-level 12 (placeOf n) l) e
-
-pub compared-done : (n : ℕ) (xs ys : List Line) (otherwise : Answer) → compared n xs ys otherwise ≡ Done → (xs ≡ ys) × (otherwise ≡ Done)
-compared-done n [] [] o e = (refl, e)
-compared-done n [] (y ∷ ys) o e = refused-done 12 (placeOf n) e
-compared-done n (x ∷ xs) [] o e = refused-done 12 (placeOf n) e
-compared-done n (x ∷ xs) (y ∷ ys) o e =
-    cond-cases (λ (a : Answer). a ≡ Done → (x ∷ xs ≡ y ∷ ys) × (o ≡ Done)) (sameLine x y) (compared (suc n) xs ys o) (Refused 12 (placeOf n))
-    (λ t f. let r = compared-done (suc n) xs ys o f in (ap₂ _∷_ (same-line x y t) (r .0), r .1)) (λ t f. refused-done 12 (placeOf n) f) e
 
 pub compared-same : (n : ℕ) (xs : List Line) (otherwise : Answer) → compared n xs xs otherwise ≡ otherwise
 compared-same n [] o = refl

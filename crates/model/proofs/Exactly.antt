@@ -25,7 +25,7 @@ use Rattle.model.specs.Services.{erase, origins, keptLines}
 use Rattle.model.specs.Refused.{Found, encoded, ciphertext, bounded, onBare, onCiphertext, onPair, sum, product, checkMachine}
 use Rattle.model.specs.Demands.{ExactLine, Exact}
 use Rattle.model.proofs.Lists.{found-at, All2, length2, beside, All3, nil3, length3, between}
-use Rattle.model.proofs.Kept.{Follows, Kept, run-kept, finish}
+use Rattle.model.proofs.Kept.{Follows, Kept, run-kept, Finished, finish}
 use Rattle.model.proofs.Bounded.{Low, High, bounded-cases, sum-cases, product-cases, tests-bound}
 use Rattle.model.proofs.EachLine.{Gives, then-gives, each-line}
 use Rattle.model.proofs.Erasing.{through, Holds, erased}
@@ -53,17 +53,17 @@ module _ (H : Handed) (h : Header) where
   Long w = length w ≡ H .slots
 
   -- y is w times two to s, at scale s and level l
-  record Times (s l : ℕ) (y : Holding) (w : Vector) : Type 0 where
-    held : y ≡ scaled s l (timesTwoTo s w)
-    long : Long w
-    bounds : Bounds h s l
+  pub record Times (s l : ℕ) (y : Holding) (w : Vector) : Type 0 where
+    pub held : y ≡ scaled s l (timesTwoTo s w)
+    pub long : Long w
+    pub bounds : Bounds h s l
 
   -- y is w itself, a bare constant
-  record Same (y : Holding) (w : Vector) : Type 0 where
-    held : y ≡ Holding.bare w
-    long : Long w
+  pub record Same (y : Holding) (w : Vector) : Type 0 where
+    pub held : y ≡ Holding.bare w
+    pub long : Long w
 
-  abbrev Agree : Found → Holding → Vector → Type 0
+  abbrev pub Agree : Found → Holding → Vector → Type 0
   Agree Found.bare y w = Same y w
   Agree (encoded s l) y w = Times s l y w
   Agree (ciphertext s l) y w = Times s l y w
@@ -185,6 +185,13 @@ module _ (H : Handed) (h : Header) where
         us = λ b. on-one (λ s l. pos (s + b)) (λ s l. pos l) (timesTwoTo b) (λ w. w) (λ w n. n) (λ s l w. times-times s b w);
       }
 
+-- through a schedule that passes the check all three run to the end, and agree at each line
+pub agreeing : (H : Handed) (h : Header) (s : List Line) {found : List Found} → run (checkMachine h) s ≡ finished found
+    → Finished (Agree H h) found (run (scaleMachine H h) s) (run (through (plainMachine H)) s)
+agreeing H h s e =
+    finish (Agree H h) (run (checkMachine h) s) (run (scaleMachine H h) s) (run (through (plainMachine H)) s) e
+    (run-kept (checkMachine h) (scaleMachine H h) (through (plainMachine H)) (Agree H h) (agree-kept H h) s 0 nil3)
+
 -- ---- only a constant line is bare
 abbrev pub isBare : Found → Bool
 isBare Found.bare = true
@@ -291,8 +298,7 @@ module _ (H : Handed) (h : Header) where
 -- a schedule that passes the check is exact
 pub exact : (H : Handed) (h : Header) (s : List Line) {found : List Found} → run (checkMachine h) s ≡ finished found → Exact H h (erase s) s
 exact H h s e =
-    let in-step = run-kept (checkMachine h) (scaleMachine H h) (through (plainMachine H)) (Agree H h) (agree-kept H h) s 0 nil3 in
-    let runs = finish (Agree H h) (run (checkMachine h) s) (run (scaleMachine H h) s) (run (through (plainMachine H)) s) e in-step in
+    let runs = agreeing H h s e in
     let circuit = erased (plainMachine H) s (runs .third-is) in
     record {
       held = runs .second;

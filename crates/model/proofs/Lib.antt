@@ -18,8 +18,10 @@ pub mod Reason
 pub mod Compared
 pub mod Vectors
 pub mod KeptLines
+pub mod Erasure
 pub mod EachLine
 pub mod Exactly
+pub mod ScaleRuns
 pub mod Drafts
 pub mod Supplies
 pub mod Meets

@@ -5,7 +5,9 @@ pub mod Products
 pub mod Verdict
 pub mod FirstBroken
 pub mod Check
+pub mod Erasing
 pub mod Exactness
+pub mod ScaleMachine
 pub mod ReserveBound
 pub mod ThePlan
 pub mod TooFewLevels

@@ -34,7 +34,9 @@ use Rattle.model.proofs.Statements.FirstBroken as FirstBroken
 use Rattle.model.proofs.Statements.Bounds as BoundsStatement
 use Rattle.model.proofs.Statements.DemandThree as DemandThree
 use Rattle.model.proofs.Statements.Check as Check
+use Rattle.model.proofs.Statements.Erasing as ErasingStatement
 use Rattle.model.proofs.Statements.Exactness as Exactness
+use Rattle.model.proofs.Statements.ScaleMachine as ScaleMachine
 use Rattle.model.proofs.Statements.ReserveBound as ReserveBound
 use Rattle.model.proofs.Statements.ThePlan as ThePlan
 use Rattle.model.proofs.Statements.TooFewLevels as TooFewLevels
@@ -53,6 +55,8 @@ use Rattle.model.proofs.Checked.{checked-keeps, keeps-checked, keeps-ag
 use Rattle.model.proofs.Reason.{only-six, only-rules}
 use Rattle.model.proofs.Compared.{judges}
 use Rattle.model.proofs.Exactly.{exact}
+use Rattle.model.proofs.Erasure.{erasure}
+use Rattle.model.proofs.ScaleRuns.{is-the-rules}
 use Rattle.model.proofs.Drafts.{Stands}
 use Rattle.model.proofs.Supplies.{Valid, scaleAt, foundFor}
 use Rattle.model.proofs.Lines.{Progress}
@@ -109,12 +113,18 @@ bounds-are h s l =
 pub checks : Check.Statement
 checks = judges
 
+pub erasing : ErasingStatement.Statement
+erasing = erasure
+
 pub exactness : Exactness.Statement
 exactness circuit schedule p H =
     let k = schedule .header in
     let s = schedule .lines in
     subst (λ (c : List Line). Rattle.model.specs.Demands.Exact H k c s) (λ i. p .erases i .lines)
     (exact H k s (keeps-checked k s (p .schedule-formed) (p .keeps) .1))
+
+pub scale-machine : ScaleMachine.Statement
+scale-machine = is-the-rules
 
 -- ---- the reserve bound
 -- the check's finding of a ciphertext has the numbers that keep the rules
