@@ -1,0 +1,5 @@
+pub mod Each
+pub mod PieceLaws
+pub mod CutLaws
+pub mod DigitLaws
+pub mod NumberLaws

@@ -1,0 +1,13 @@
+pub mod Statements
+pub mod Theorems
+pub mod WordLaws
+pub mod Forms
+pub mod Shapes
+pub mod LineLaws
+pub mod HeaderLaws
+pub mod FileLaws
+pub mod Tables
+pub mod Lengths
+pub mod Deciding
+pub mod Refusals
+pub mod Worked

@@ -1,0 +1,149 @@
+-- Texts of a few lines and what they read to, the limits of numbers on both sides, and where a text has two faults the one that is told. The first two
+-- are written byte by byte.
+use Prim.Native.Nat.{ℕ}
+use mathlib.Core.Path.{_≡_}
+use mathlib.Core.List.{List, [], _∷_, _++_}
+use lib.IntN.{pos, negsuc}
+use lib.ListN.{replicate}
+use Rattle.fields.specs.Pieces.{Bytes, tab, join}
+use Rattle.fields.specs.Numbers.{decimal, amountText}
+use Rattle.model.specs.declared.Grammar.{Grammar}
+use Rattle.model.specs.declared.Grammar.the-variants.{Circuit, Schedule}
+use Rattle.model.specs.declared.Header.{Header}
+use Rattle.model.specs.declared.Line as L
+use Rattle.model.specs.declared.Line.{Line}
+use Rattle.text.specs.declared.Word.the-variants.{In, Const, Neg, Rot, Add, Mul, Out, Enc, Rs, Ms, Us}
+use Rattle.text.specs.Words.{wordText, headerWord}
+use Rattle.text.specs.Files.{Reading, read, refused, readText, circuitContext, scheduleContext, eraseContext}
+use Rattle.text.specs.Write.{fieldsText, linesText}
+
+abbrev header : Grammar → Bytes
+header g = fieldsText (headerWord g ∷ decimal 60 ∷ decimal 20 ∷ decimal 2 ∷ [])
+
+abbrev numbers : Header
+numbers = record { factor = 60; waterline = 20; top = 2 }
+
+-- after the header `circuit 60 20 2`, and after `schedule 60 20 2`
+abbrev circuit : Bytes → Reading
+circuit lines = readText circuitContext (header Circuit ++ lines)
+
+abbrev schedule : Bytes → Reading
+schedule lines = readText scheduleContext (header Schedule ++ lines)
+
+abbrev erasing : Bytes → Reading
+erasing lines = readText eraseContext (header Schedule ++ lines)
+
+abbrev file : List Line → Reading
+file lines = read (record { header = numbers; lines = lines })
+
+abbrev in-line : Bytes
+in-line = fieldsText (wordText In ∷ [])
+
+abbrev const-line : Bytes
+const-line = fieldsText (wordText Const ∷ decimal 0 ∷ [])
+
+-- the fields `01` and `-0`
+abbrev leading-zero : Bytes
+leading-zero = 48 ∷ 49 ∷ []
+
+abbrev minus-zero : Bytes
+minus-zero = 45 ∷ 48 ∷ []
+
+-- a line of fields after `in`, and after `const 0`
+abbrev after-in : List Bytes → Bytes
+after-in fields = in-line ++ fieldsText fields
+
+abbrev after-const : List Bytes → Bytes
+after-const fields = const-line ++ fieldsText fields
+
+abbrev headed : ℕ → ℕ → ℕ → Reading
+headed f w l = readText circuitContext (fieldsText (headerWord Circuit ∷ decimal f ∷ decimal w ∷ decimal l ∷ []))
+
+abbrev with-header : ℕ → ℕ → ℕ → Reading
+with-header f w l = read (record { header = record { factor = f; waterline = w; top = l }; lines = [] })
+
+-- 256 lines that are kept
+abbrev kept-lines : Bytes
+kept-lines = linesText (replicate 256 L.the-variants.In)
+
+pub record Statement : Type 0 where
+  -- `circuit 60 20 2 / in /` and `circuit 60 20 2 / neg 0 /`
+  pub bytes-read : readText circuitContext (99 ∷ 105 ∷ 114 ∷ 99 ∷ 117 ∷ 105 ∷ 116 ∷ 9 ∷ 54 ∷ 48 ∷ 9 ∷ 50 ∷ 48 ∷ 9 ∷ 50 ∷ 10 ∷ 105 ∷ 110 ∷ 10 ∷ []) ≡ file (L.the-variants.In ∷ [])
+  pub bytes-refused : readText circuitContext (99 ∷ 105 ∷ 114 ∷ 99 ∷ 117 ∷ 105 ∷ 116 ∷ 9 ∷ 54 ∷ 48 ∷ 9 ∷ 50 ∷ 48 ∷ 9 ∷ 50 ∷ 10 ∷ 110 ∷ 101 ∷ 103 ∷ 9 ∷ 48 ∷ 10 ∷ []) ≡ refused 4 2
+  -- ---- the header
+  pub empty : readText circuitContext [] ≡ refused 1 1
+  pub header-alone : circuit [] ≡ file []
+  pub header-of-schedule : readText circuitContext (header Schedule) ≡ refused 1 1
+  pub header-unclosed : readText circuitContext (join tab (headerWord Circuit ∷ decimal 60 ∷ decimal 20 ∷ decimal 2 ∷ [])) ≡ refused 1 1
+  pub header-least : headed 1 1 1 ≡ with-header 1 1 1
+  pub header-most : headed 60 60 60 ≡ with-header 60 60 60
+  pub factor-zero : headed 0 20 2 ≡ refused 2 1
+  pub factor-over : headed 61 20 2 ≡ refused 2 1
+  pub waterline-zero : headed 60 0 2 ≡ refused 2 1
+  pub waterline-over : headed 60 61 2 ≡ refused 2 1
+  pub top-zero : headed 60 20 0 ≡ refused 2 1
+  pub top-over : headed 60 20 61 ≡ refused 2 1
+  pub header-form-first : readText circuitContext (fieldsText (headerWord Circuit ∷ decimal 61 ∷ decimal 20 ∷ leading-zero ∷ [])) ≡ refused 1 1
+  pub header-two-numbers : readText circuitContext (fieldsText (headerWord Circuit ∷ decimal 60 ∷ decimal 20 ∷ [])) ≡ refused 1 1
+  pub header-four-numbers : readText circuitContext (fieldsText (headerWord Circuit ∷ decimal 60 ∷ decimal 20 ∷ decimal 2 ∷ decimal 2 ∷ [])) ≡ refused 1 1
+  pub header-then-line : readText circuitContext (fieldsText (headerWord Circuit ∷ decimal 61 ∷ decimal 20 ∷ decimal 2 ∷ []) ++ fieldsText []) ≡ refused 2 1
+  -- ---- the form of a line
+  pub unclosed : circuit (wordText In) ≡ refused 1 2
+  pub no-word : circuit (fieldsText (headerWord Circuit ∷ [])) ≡ refused 1 2
+  pub carriage-return : circuit (wordText In ++ (13 ∷ 10 ∷ [])) ≡ refused 1 2
+  pub empty-line : circuit (after-in []) ≡ refused 1 3
+  pub tab-after : circuit (fieldsText (wordText In ∷ [] ∷ [])) ≡ refused 1 2
+  pub tab-doubled : circuit (after-in (wordText Neg ∷ [] ∷ decimal 0 ∷ [])) ≡ refused 1 3
+  pub field-missing : circuit (after-in (wordText Neg ∷ [])) ≡ refused 1 3
+  pub field-too-many : circuit (after-in (wordText Neg ∷ decimal 0 ∷ decimal 0 ∷ [])) ≡ refused 1 3
+  pub zero-first : circuit (after-in (wordText Neg ∷ leading-zero ∷ [])) ≡ refused 1 3
+  pub plus-first : circuit (after-in (wordText Neg ∷ (43 ∷ 49 ∷ []) ∷ [])) ≡ refused 1 3
+  pub minus-first : circuit (after-in (wordText Neg ∷ amountText (negsuc 0) ∷ [])) ≡ refused 1 3
+  pub twelve-digits : circuit (after-in (wordText Neg ∷ replicate 12 49 ∷ [])) ≡ refused 1 3
+  pub eleven-digits : circuit (after-in (wordText Neg ∷ replicate 11 49 ∷ [])) ≡ refused 4 3
+  pub twelve-with-minus : circuit (after-in (wordText Rot ∷ decimal 0 ∷ (45 ∷ replicate 11 49) ∷ [])) ≡ refused 1 3
+  pub eleven-with-minus : circuit (after-in (wordText Rot ∷ decimal 0 ∷ (45 ∷ replicate 10 49) ∷ [])) ≡ refused 11 3
+  pub minus-before-zero : circuit (after-in (wordText Rot ∷ decimal 0 ∷ minus-zero ∷ [])) ≡ refused 1 3
+  pub schedule-word : circuit (after-in (wordText Rs ∷ decimal 0 ∷ decimal 1 ∷ [])) ≡ refused 1 3
+  -- ---- ranges
+  pub constant-most : circuit (fieldsText (wordText Const ∷ decimal 65535 ∷ [])) ≡ file (L.the-variants.Const 65535 ∷ [])
+  pub constant-over : circuit (fieldsText (wordText Const ∷ decimal 65536 ∷ [])) ≡ refused 11 2
+  pub turn-most : circuit (after-in (wordText Rot ∷ decimal 0 ∷ amountText (pos 32767) ∷ [])) ≡ file (L.the-variants.In ∷ L.the-variants.Rot 0 (pos 32767) ∷ [])
+  pub turn-over : circuit (after-in (wordText Rot ∷ decimal 0 ∷ amountText (pos 32768) ∷ [])) ≡ refused 11 3
+  pub turn-least : circuit (after-in (wordText Rot ∷ decimal 0 ∷ amountText (negsuc 32766) ∷ [])) ≡ file (L.the-variants.In ∷ L.the-variants.Rot 0 (negsuc 32766) ∷ [])
+  pub turn-below : circuit (after-in (wordText Rot ∷ decimal 0 ∷ amountText (negsuc 32767) ∷ [])) ≡ refused 11 3
+  pub encoded-least : schedule (after-const (wordText Enc ∷ decimal 0 ∷ decimal 1 ∷ decimal 1 ∷ [])) ≡ file (L.the-variants.Const 0 ∷ L.the-variants.Enc 0 1 1 ∷ [])
+  pub encoded-most : schedule (after-const (wordText Enc ∷ decimal 0 ∷ decimal 3600 ∷ decimal 2 ∷ [])) ≡ file (L.the-variants.Const 0 ∷ L.the-variants.Enc 0 3600 2 ∷ [])
+  pub scale-zero : schedule (after-const (wordText Enc ∷ decimal 0 ∷ decimal 0 ∷ decimal 1 ∷ [])) ≡ refused 11 3
+  pub scale-over : schedule (after-const (wordText Enc ∷ decimal 0 ∷ decimal 3601 ∷ decimal 1 ∷ [])) ≡ refused 11 3
+  pub level-zero : schedule (after-const (wordText Enc ∷ decimal 0 ∷ decimal 20 ∷ decimal 0 ∷ [])) ≡ refused 11 3
+  pub level-over : schedule (after-const (wordText Enc ∷ decimal 0 ∷ decimal 20 ∷ decimal 3 ∷ [])) ≡ refused 11 3
+  pub rescales-none : schedule (after-in (wordText Rs ∷ decimal 0 ∷ decimal 0 ∷ [])) ≡ refused 11 3
+  pub rescales-most : schedule (after-in (wordText Rs ∷ decimal 0 ∷ decimal 60 ∷ [])) ≡ file (L.the-variants.In ∷ L.the-variants.Rs 0 60 ∷ [])
+  pub rescales-over : schedule (after-in (wordText Rs ∷ decimal 0 ∷ decimal 61 ∷ [])) ≡ refused 11 3
+  pub modswitches-none : schedule (after-in (wordText Ms ∷ decimal 0 ∷ decimal 0 ∷ [])) ≡ refused 11 3
+  pub modswitches-most : schedule (after-in (wordText Ms ∷ decimal 0 ∷ decimal 60 ∷ [])) ≡ file (L.the-variants.In ∷ L.the-variants.Ms 0 60 ∷ [])
+  pub modswitches-over : schedule (after-in (wordText Ms ∷ decimal 0 ∷ decimal 61 ∷ [])) ≡ refused 11 3
+  pub bits-none : schedule (after-in (wordText Us ∷ decimal 0 ∷ decimal 0 ∷ [])) ≡ refused 11 3
+  pub bits-most : schedule (after-in (wordText Us ∷ decimal 0 ∷ decimal 3600 ∷ [])) ≡ file (L.the-variants.In ∷ L.the-variants.Us 0 3600 ∷ [])
+  pub bits-over : schedule (after-in (wordText Us ∷ decimal 0 ∷ decimal 3601 ∷ [])) ≡ refused 11 3
+  pub form-before-range : schedule (after-const (wordText Enc ∷ decimal 0 ∷ decimal 3601 ∷ leading-zero ∷ [])) ≡ refused 1 3
+  pub range-before-operand : circuit (fieldsText (wordText Rot ∷ decimal 0 ∷ amountText (pos 32768) ∷ [])) ≡ refused 11 2
+  -- ---- operands and kinds
+  pub operand-itself : circuit (after-in (wordText Neg ∷ decimal 1 ∷ [])) ≡ refused 4 3
+  pub operand-out : circuit (after-in (wordText Out ∷ decimal 0 ∷ []) ++ fieldsText (wordText Neg ∷ decimal 1 ∷ [])) ≡ refused 4 4
+  pub constant-negated : circuit (after-const (wordText Neg ∷ decimal 0 ∷ [])) ≡ refused 5 3
+  pub two-constants : circuit (after-const (wordText Mul ∷ decimal 0 ∷ decimal 0 ∷ [])) ≡ refused 5 3
+  pub constant-second : circuit (in-line ++ after-const (wordText Add ∷ decimal 0 ∷ decimal 1 ∷ [])) ≡ file (L.the-variants.In ∷ L.the-variants.Const 0 ∷ L.the-variants.Add 0 1 ∷ [])
+  pub operand-before-kind : circuit (after-const (wordText Mul ∷ decimal 0 ∷ decimal 1 ∷ [])) ≡ refused 4 3
+  pub bare-constant : schedule (in-line ++ after-const (wordText Mul ∷ decimal 0 ∷ decimal 1 ∷ [])) ≡ refused 5 4
+  pub ciphertext-encoded : schedule (after-in (wordText Enc ∷ decimal 0 ∷ decimal 20 ∷ decimal 2 ∷ [])) ≡ refused 5 3
+  pub first-line-told : circuit (after-in (wordText Neg ∷ decimal 5 ∷ []) ++ fieldsText []) ≡ refused 4 3
+  -- ---- how many lines
+  pub lines-256 : circuit kept-lines ≡ file (replicate 256 L.the-variants.In)
+  pub lines-257 : circuit (kept-lines ++ (45 ∷ [])) ≡ refused 3 258
+  pub kept-257 : erasing (kept-lines ++ (fieldsText (wordText Ms ∷ decimal 0 ∷ decimal 1 ∷ []) ++ in-line)) ≡ refused 3 259
+  pub kept-not-of-form : erasing (kept-lines ++ fieldsText (wordText In ∷ decimal 5 ∷ [])) ≡ refused 3 258
+  pub kept-unclosed : erasing (kept-lines ++ wordText In) ≡ refused 3 258
+  pub struck-257 : erasing (kept-lines ++ fieldsText (wordText Ms ∷ decimal 0 ∷ decimal 1 ∷ [])) ≡ file (replicate 256 L.the-variants.In ++ (L.the-variants.Ms 0 1 ∷ []))
+  pub struck-unclosed : erasing (kept-lines ++ wordText Ms) ≡ refused 1 258

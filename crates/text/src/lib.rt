@@ -1,0 +1,62 @@
+// The types of the text layer: what reading a line and a file comes to. What they mean stands in specs/; reader and writer have the code.
+use model::Grammar;
+use model::Header;
+use model::Line;
+use model::Table;
+
+// The words of document 01's lines, and no word of them.
+pub enum Word {
+    In,
+    Const,
+    Neg,
+    Rot,
+    Add,
+    Mul,
+    Out,
+    Enc,
+    Rs,
+    Ms,
+    Us,
+    NoWord,
+}
+
+// A line by its form alone: its word and the numbers of its fields, 0 where it has none.
+pub struct Shape {
+    pub word: Word,
+    pub first: u64,
+    pub second: u64,
+    pub third: u64,
+    pub turn: i64,
+}
+
+// What a line's fields come to: its form, or the refusal of a line that is not of the form.
+pub enum Form {
+    Shaped(Shape),
+    Unformed { number: u32, place: u32 },
+}
+
+// What reading a line comes to.
+pub enum LineRead {
+    Good(Line),
+    Bad { number: u32, place: u32 },
+}
+
+// What reading a header line comes to.
+pub enum HeaderRead {
+    Head(Header),
+    Bad { number: u32, place: u32 },
+}
+
+// What a reading needs beside the text: the grammar, how many lines there may be, and how many of them with a circuit's word.
+pub struct Context {
+    pub grammar: Grammar,
+    pub limit: usize,
+    pub kept: usize,
+}
+
+// What reading a file comes to: the table, or with a number that is not 0 a refusal, whose table means nothing.
+pub struct FileRead {
+    pub number: u32,
+    pub place: u32,
+    pub table: Table,
+}
