@@ -1,7 +1,7 @@
 -- Which refusals reading gives, and that what follows does not change them. Assumes nothing.
 use Prim.Native.Nat.{ℕ, suc, _+_, _≤_}
 use native.Mathlib.Omega.{arith}
-use mathlib.Core.Path.{_≡_, sym, _∙_, subst₂}
+use mathlib.Core.Path.{_≡_, sym, _∙_, subst, subst₂}
 use mathlib.Core.Bool.{Bool, true, false, cond}
 use mathlib.Core.List.{List, [], _∷_, _++_}
 use lib.Dec.{eqb}
@@ -88,6 +88,29 @@ fields-answer g (x ∷ f ∷ w ∷ l ∷ m ∷ ms) = bad-head 1 form
 header-answer : (g : Grammar) (p : Bytes) → HeaderAnswer (readHeader g p)
 unfolding readHeader
 header-answer g p = fields-answer g (split tab p)
+
+-- ---- no refusal has number 0, so that an answer's 0 can stand for a file
+not-zero : {n : ℕ} → IsNumber n → n ≡ 0 → ⊥
+not-zero form e = omega arith
+not-zero header e = omega arith
+not-zero lines e = omega arith
+not-zero operand e = omega arith
+not-zero kind e = omega arith
+not-zero range e = omega arith
+
+pub line-number : (g : Grammar) (h : Header) (before : List Line) (bytes : Bytes) {n p : ℕ} → readLine g h before bytes ≡ Line·Read.Bad n p → n ≡ 0 → ⊥
+line-number g h before bytes {n} {p} e = not-zero (go (line-answer g h before bytes) e)
+  where
+    go : {l : LineRead} → LineAnswer (placeOf (length before)) l → l ≡ Line·Read.Bad n p → IsNumber n
+    go (good x) q = absurd (let z : _≡_ {A = ℕ} 0 1 = cc in omega arith)
+    go (bad m i) q = let same : m ≡ n = cc in subst IsNumber same i
+
+pub header-number : (g : Grammar) (bytes : Bytes) {n p : ℕ} → readHeader g bytes ≡ Header·Read.Bad n p → n ≡ 0 → ⊥
+header-number g bytes {n} {p} e = not-zero (go (header-answer g bytes) e)
+  where
+    go : {l : HeaderRead} → HeaderAnswer l → l ≡ Header·Read.Bad n p → IsNumber n
+    go (head h) q = absurd (let z : _≡_ {A = ℕ} 0 1 = cc in omega arith)
+    go (bad-head m i) q = let same : m ≡ n = cc in subst IsNumber same i
 
 -- ---- the lines: a refusal stands at one of the pieces
 record At (low high n p : ℕ) : Type 0 where

@@ -1,0 +1,7 @@
+pub mod KindLaws
+pub mod JudgeLaws
+mod WordLaws
+mod FormLaws
+mod RangeLaws
+mod HeaderLaws
+mod LineLaws

@@ -1,0 +1,20 @@
+-- `lines::forms::second_field` meets its contract: one law for each return, its premises the tests on the way. Assumes nothing.
+use Rattle.lines.proofs.FormLaws.{form-laws}
+use Rattle.lines.proofs.forms.second_field.Statement.{statement}
+use Rattle.lines.proofs.forms.second_field.Tie as tie
+
+pub second-field-spec : {M : Type 1} → statement M
+second-field-spec =
+    tie.close
+    (tie.spec
+    (λ c κs. search form-laws)
+    (λ c κs. search form-laws)
+    (λ c. search form-laws)
+    (λ c. search form-laws)
+    (λ c. search form-laws)
+    (λ c. search form-laws)
+    (λ c κs. search form-laws)
+    (λ c. search form-laws)
+    (λ c. search form-laws)
+    (λ c. search form-laws)
+    (λ c. search form-laws))

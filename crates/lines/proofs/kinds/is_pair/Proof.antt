@@ -1,0 +1,18 @@
+-- `lines::kinds::is_pair` meets its contract: one law for each return, its premises the tests on the way. Assumes nothing.
+use Rattle.lines.proofs.KindLaws.{kind-laws}
+use Rattle.lines.proofs.kinds.is_pair.Statement.{statement}
+use Rattle.lines.proofs.kinds.is_pair.Tie as tie
+
+pub is-pair-spec : {M : Type 1} → statement M
+is-pair-spec =
+    tie.close
+    (tie.spec
+    (λ c κs. search kind-laws)
+    (λ c κs. search kind-laws)
+    (λ c. search kind-laws)
+    (λ c κs. search kind-laws)
+    (λ c. search kind-laws)
+    (λ c κs. search kind-laws)
+    (λ c κs. search kind-laws)
+    (λ c. search kind-laws)
+    (λ c. search kind-laws))

@@ -1,0 +1,23 @@
+-- `lines::kinds::is_plaintext` meets its contract: the kind decides, and for constants the grammar. Assumes nothing.
+use Rattle.lines.proofs.KindLaws.{kind-laws}
+use Rattle.lines.proofs.kinds.is_plaintext.Statement.{statement}
+use Rattle.lines.proofs.kinds.is_plaintext.Tie as tie
+
+pub is-plaintext-spec : {M : Type 1} → statement M
+is-plaintext-spec =
+    tie.close
+    (tie.spec
+    (λ c. search kind-laws)
+    (λ c. search kind-laws)
+    (λ c. search kind-laws)
+    (λ c. search kind-laws)
+    (λ c. search kind-laws)
+    (λ c. search kind-laws)
+    (λ c. search kind-laws)
+    (λ c. search kind-laws)
+    (λ c. search kind-laws)
+    (λ c. search kind-laws)
+    (λ c. search kind-laws)
+    (λ c. search kind-laws)
+    (λ c. search kind-laws)
+    (λ c. search kind-laws))

@@ -1,0 +1,168 @@
+// The form of a line: a word of the grammar and as many fields as it takes, each of them a number.
+use crate::words;
+use fields::Amount;
+use fields::Field;
+use model::Grammar;
+use text::Form;
+use text::Shape;
+use text::Word;
+ghost use mathlib.Core.Path.{_≡_};
+ghost use mathlib.Core.List.{[], _∷_};
+ghost use Rattle.fields.specs.Pieces.{tab, split};
+ghost use Rattle.text.specs.Lines.{shapeOf, formOf, second};
+
+// The whole line: its word, then the fields after the first tab.
+pub fn form(grammar: Grammar, place: u32, bytes: &[u8]) -> Form
+    ensures { λ r. ⌜ r ≡ formOf grammar place (split tab (now (bytes .entry))) ⌝ }
+{
+    let end = fields::find(bytes, 9);
+    let word = words::word_of(&bytes[..end]);
+    if end == bytes.len() {
+        return no_field(grammar, place, word);
+    }
+    some_fields(grammar, place, word, &bytes[end + 1..])
+}
+
+fn no_field(grammar: Grammar, place: u32, word: Word) -> Form
+    ensures { λ r. ⌜ r ≡ shapeOf grammar place word [] ⌝ }
+{
+    if words::takes(grammar, word, 0) {
+        return Form::Shaped(Shape {
+            word,
+            first: 0,
+            second: 0,
+            third: 0,
+            turn: 0,
+        });
+    }
+    Form::Unformed { number: 1, place }
+}
+
+fn one_field(grammar: Grammar, place: u32, word: Word, a: &[u8]) -> Form
+    ensures { λ r. ⌜ r ≡ shapeOf grammar place word (now (a .entry) ∷ []) ⌝ }
+{
+    if !words::takes(grammar, word, 1) {
+        return Form::Unformed { number: 1, place };
+    }
+    let Field::Number(first) = fields::read_number(a) else {
+        return Form::Unformed { number: 1, place };
+    };
+    Form::Shaped(Shape {
+        word,
+        first,
+        second: 0,
+        third: 0,
+        turn: 0,
+    })
+}
+
+// The second field after a first that is a number: of a rotation an amount, of any other word a number.
+fn second_field(place: u32, word: Word, first: u64, b: &[u8]) -> Form
+    ensures { λ r. ⌜ r ≡ second place word first (now (b .entry)) ⌝ }
+{
+    if words::is_rot(word) {
+        let Amount::By(turn) = fields::read_amount(b) else {
+            return Form::Unformed { number: 1, place };
+        };
+        return Form::Shaped(Shape {
+            word,
+            first,
+            second: 0,
+            third: 0,
+            turn,
+        });
+    }
+    let Field::Number(second) = fields::read_number(b) else {
+        return Form::Unformed { number: 1, place };
+    };
+    Form::Shaped(Shape {
+        word,
+        first,
+        second,
+        third: 0,
+        turn: 0,
+    })
+}
+
+fn two_fields<'a>(grammar: Grammar, place: u32, word: Word, a: &'a [u8], b: &'a [u8]) -> Form
+    ensures { λ r. ⌜ r ≡ shapeOf grammar place word (now (a .entry) ∷ now (b .entry) ∷ []) ⌝ }
+{
+    if !words::takes(grammar, word, 2) {
+        return Form::Unformed { number: 1, place };
+    }
+    let Field::Number(first) = fields::read_number(a) else {
+        return Form::Unformed { number: 1, place };
+    };
+    second_field(place, word, first, b)
+}
+
+fn three_fields<'a>(
+    grammar: Grammar,
+    place: u32,
+    word: Word,
+    a: &'a [u8],
+    b: &'a [u8],
+    c: &'a [u8],
+) -> Form
+    ensures { λ r. ⌜ r ≡ shapeOf grammar place word (now (a .entry) ∷ now (b .entry) ∷ now (c .entry) ∷ []) ⌝ }
+{
+    if !words::takes(grammar, word, 3) {
+        return Form::Unformed { number: 1, place };
+    }
+    let Field::Number(first) = fields::read_number(a) else {
+        return Form::Unformed { number: 1, place };
+    };
+    let Field::Number(second) = fields::read_number(b) else {
+        return Form::Unformed { number: 1, place };
+    };
+    let Field::Number(third) = fields::read_number(c) else {
+        return Form::Unformed { number: 1, place };
+    };
+    Form::Shaped(Shape {
+        word,
+        first,
+        second,
+        third,
+        turn: 0,
+    })
+}
+
+// One field or more: what stands after the word's tab.
+fn some_fields(grammar: Grammar, place: u32, word: Word, rest: &[u8]) -> Form
+    ensures { λ r. ⌜ r ≡ shapeOf grammar place word (split tab (now (rest .entry))) ⌝ }
+{
+    let end = fields::find(rest, 9);
+    if end == rest.len() {
+        return one_field(grammar, place, word, rest);
+    }
+    after_one(grammar, place, word, &rest[..end], &rest[end + 1..])
+}
+
+// Two fields or more: the first, and what stands after its tab.
+fn after_one<'a>(grammar: Grammar, place: u32, word: Word, a: &'a [u8], rest: &'a [u8]) -> Form
+    ensures { λ r. ⌜ r ≡ shapeOf grammar place word (now (a .entry) ∷ split tab (now (rest .entry))) ⌝ }
+{
+    let end = fields::find(rest, 9);
+    if end == rest.len() {
+        return two_fields(grammar, place, word, a, rest);
+    }
+    after_two(grammar, place, word, a, &rest[..end], &rest[end + 1..])
+}
+
+// Three fields or more. No word takes more than three.
+fn after_two<'a>(
+    grammar: Grammar,
+    place: u32,
+    word: Word,
+    a: &'a [u8],
+    b: &'a [u8],
+    rest: &'a [u8],
+) -> Form
+    ensures { λ r. ⌜ r ≡ shapeOf grammar place word (now (a .entry) ∷ now (b .entry) ∷ split tab (now (rest .entry))) ⌝ }
+{
+    let end = fields::find(rest, 9);
+    if end == rest.len() {
+        return three_fields(grammar, place, word, a, b, rest);
+    }
+    Form::Unformed { number: 1, place }
+}

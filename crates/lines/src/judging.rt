@@ -1,0 +1,181 @@
+// Ranges, operands and kinds of a line that is of the form, in this order.
+use crate::kinds;
+use model::Grammar;
+use model::Header;
+use model::Kind;
+use model::Line;
+use text::LineRead;
+use text::Shape;
+use text::Word;
+ghost use mathlib.Core.Path.{_≡_};
+ghost use mathlib.Core.List.{List};
+ghost use Prim.Native.Nat.{_≤_};
+ghost use lib.ListN.{length};
+ghost use lib.IntN.{pos, negℤ};
+ghost use lib.Signed.{leZ};
+ghost use mathlib.Core.Bool.{_&&_};
+ghost use Rattle.model.specs.Scales.{within};
+ghost use Rattle.model.specs.Files.{inRange};
+ghost use Rattle.text.specs.Lines.{lineFor, shapeLine, judged};
+ghost use Rattle.lines.specs.Kinds.{codes};
+ghost use Rattle.lines.specs.Judging.{operandsOf, usableBy, kindsFitBy, Tidy, Small};
+
+// From 1 to most.
+pub fn up_to(most: u64, n: u64) -> bool
+    ensures { λ r. ⌜ r ≡ within 1 most n ⌝ }
+{
+    if n < 1 {
+        return false;
+    }
+    n <= most
+}
+
+fn turn_in_range(turn: i64) -> bool
+    ensures { λ r. ⌜ r ≡ (leZ (negℤ (pos 32767)) turn && leZ turn (pos 32767)) ⌝ }
+{
+    if turn < -32767 {
+        return false;
+    }
+    turn <= 32767
+}
+
+fn in_range(header: Header, shape: Shape) -> bool
+    ensures { λ r. ⌜ r ≡ inRange header (shapeLine shape) ⌝ }
+{
+    let word = shape.word;
+    match word {
+        Word::In => true,
+        Word::Const => shape.first <= 65535,
+        Word::Neg => true,
+        Word::Rot => turn_in_range(shape.turn),
+        Word::Add => true,
+        Word::Mul => true,
+        Word::Out => true,
+        Word::Enc => {
+            if !up_to(3600, shape.second) {
+                return false;
+            }
+            up_to(header.top as u64, shape.third)
+        }
+        Word::Rs => up_to(60, shape.second),
+        Word::Ms => up_to(60, shape.second),
+        Word::Us => up_to(3600, shape.second),
+        Word::NoWord => true,
+    }
+}
+
+// What a word's operands are: its first fields, where they name earlier lines.
+pub enum Operands {
+    NoOperand,
+    Ciphertext,
+    Constant,
+    Pair,
+}
+
+fn operands_of(word: Word) -> Operands
+    ensures { λ r. ⌜ r ≡ operandsOf word ⌝ }
+{
+    match word {
+        Word::In => Operands::NoOperand,
+        Word::Const => Operands::NoOperand,
+        Word::Neg => Operands::Ciphertext,
+        Word::Rot => Operands::Ciphertext,
+        Word::Add => Operands::Pair,
+        Word::Mul => Operands::Pair,
+        Word::Out => Operands::Ciphertext,
+        Word::Enc => Operands::Constant,
+        Word::Rs => Operands::Ciphertext,
+        Word::Ms => Operands::Ciphertext,
+        Word::Us => Operands::Ciphertext,
+        Word::NoWord => Operands::NoOperand,
+    }
+}
+
+// Whether each operand can be used at all.
+fn usable(operands: Operands, first: Kind, second: Kind) -> bool
+    ensures { λ r. ⌜ r ≡ usableBy operands first second ⌝ }
+{
+    match operands {
+        Operands::NoOperand => true,
+        Operands::Ciphertext => kinds::is_usable(first),
+        Operands::Constant => kinds::is_usable(first),
+        Operands::Pair => {
+            if !kinds::is_usable(first) {
+                return false;
+            }
+            kinds::is_usable(second)
+        }
+    }
+}
+
+// Whether the operands are of the kinds that the word takes.
+fn kinds_fit(grammar: Grammar, operands: Operands, first: Kind, second: Kind) -> bool
+    ensures { λ r. ⌜ r ≡ kindsFitBy grammar operands first second ⌝ }
+{
+    match operands {
+        Operands::NoOperand => true,
+        Operands::Ciphertext => kinds::is_ciphertext(first),
+        Operands::Constant => kinds::is_constant(first),
+        Operands::Pair => kinds::is_pair(grammar, first, second),
+    }
+}
+
+fn line_for(word: Word, a: u32, b: u32, c: u32, turn: i32) -> Line
+    ensures { λ r. ⌜ r ≡ lineFor word a b c turn ⌝ }
+{
+    match word {
+        Word::In => Line::In,
+        Word::Const => Line::Const(a),
+        Word::Neg => Line::Neg(a),
+        Word::Rot => Line::Rot(a, turn),
+        Word::Add => Line::Add(a, b),
+        Word::Mul => Line::Mul(a, b),
+        Word::Out => Line::Out(a),
+        Word::Enc => Line::Enc {
+            of: a,
+            scale: b,
+            level: c,
+        },
+        Word::Rs => Line::Rs(a, b),
+        Word::Ms => Line::Ms(a, b),
+        Word::Us => Line::Us(a, b),
+        Word::NoWord => Line::Free,
+    }
+}
+
+fn line_of(shape: Shape) -> Line
+    requires { ⌜ Small shape ⌝ }
+    ensures { λ r. ⌜ r ≡ shapeLine shape ⌝ }
+{
+    let word = shape.word;
+    line_for(
+        word,
+        shape.first as u32,
+        shape.second as u32,
+        shape.third as u32,
+        shape.turn as i32,
+    )
+}
+
+// A form after lines of these kinds. Its numbers are made smaller only when ranges and operands show that they fit.
+pub fn judge(grammar: Grammar, header: Header, before: &[u8], shape: Shape) -> LineRead
+    requires { ⌜ length (now before) ≤ 1792 ⌝ }
+    requires tidy { ⌜ Tidy shape ⌝ }
+    ensures { λ r. ⌜ ((lines : List Line) → codes lines ≡ now (before .entry) → r ≡ judged grammar header lines (shapeLine shape)) ⌝ }
+{
+    let place = (before.len() as u32) + 2;
+    if !in_range(header, shape) {
+        return LineRead::Bad { number: 11, place };
+    }
+    let word = shape.word;
+    let operands = operands_of(word);
+    let first = kinds::kind_at(before, shape.first);
+    let second = kinds::kind_at(before, shape.second);
+    if !usable(operands, first, second) {
+        return LineRead::Bad { number: 4, place };
+    }
+    if !kinds_fit(grammar, operands, first, second) {
+        return LineRead::Bad { number: 5, place };
+    }
+    LineRead::Good(line_of(shape))
+}

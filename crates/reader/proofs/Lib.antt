@@ -1,0 +1,4 @@
+pub mod Slices
+pub mod Numbered
+pub mod LineLaws
+pub mod Filling

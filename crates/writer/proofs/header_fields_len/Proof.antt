@@ -1,0 +1,19 @@
+-- `writer::header_fields_len` meets its contract: each grammar by its arm. Assumes nothing.
+use borrow.Author.Needs.{needs}
+use Rattle.writer.proofs.Lengths.{lengths}
+use Rattle.writer.proofs.Fields.{header-fields}
+use Rattle.writer.proofs.header_fields_len.Statement.{statement}
+use Rattle.writer.proofs.header_fields_len.Tie as tie
+
+pub header-fields-len-spec : {M : Type 1} → statement M
+header-fields-len-spec =
+    tie.close
+    (tie.spec
+    (λ c. search needs)
+    (λ c. search needs)
+    (λ c κs. search needs)
+    (λ c. search needs)
+    (λ c. search needs)
+    (λ c κs. search needs)
+    (λ c. search (lengths, header-fields))
+    (λ c. search (lengths, header-fields)))

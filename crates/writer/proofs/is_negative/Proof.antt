@@ -1,0 +1,10 @@
+-- `writer::is_negative` meets its contract: the machine's test is the sign. Assumes nothing.
+use Rattle.writer.proofs.Signs.{same-sign}
+use Rattle.writer.proofs.is_negative.Statement.{statement}
+use Rattle.writer.proofs.is_negative.Tie as tie
+
+pub is-negative-spec : {M : Type 1} → statement M
+is-negative-spec =
+    tie.close
+    (tie.spec
+    (λ c. search same-sign))

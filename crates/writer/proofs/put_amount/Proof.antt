@@ -1,0 +1,20 @@
+-- `writer::put_amount` meets its contract: a minus and the digits, or the digits alone. Assumes nothing.
+use borrow.Author.Needs.{needs}
+use Rattle.writer.proofs.Puts.{puts}
+use Rattle.writer.proofs.Amounts.{amounts}
+use Rattle.writer.proofs.put_amount.Statement.{statement}
+use Rattle.writer.proofs.put_amount.Tie as tie
+
+pub put-amount-spec : {M : Type 1} → statement M
+put-amount-spec =
+    tie.close
+    (tie.spec
+    (λ c κs. search needs)
+    (λ c κs. search needs)
+    (λ c κs. search (puts, amounts))
+    (λ c κs. search (puts, amounts))
+    (λ c. search needs)
+    (λ c. search (puts, amounts))
+    (λ c κs. search (puts, amounts))
+    (λ c. search needs)
+    (λ c. search (puts, amounts)))

@@ -1,0 +1,21 @@
+-- `writer::put_header_fields` meets its contract: each grammar by its arm. Assumes nothing.
+use borrow.Author.Needs.{needs}
+use Rattle.writer.proofs.Puts.{puts}
+use Rattle.writer.proofs.Fields.{header-fields}
+use Rattle.writer.proofs.put_header_fields.Statement.{statement}
+use Rattle.writer.proofs.put_header_fields.Tie as tie
+
+pub put-header-fields-spec : {M : Type 1} → statement M
+put-header-fields-spec =
+    tie.close
+    (tie.spec
+    (λ c. search needs)
+    (λ c. search needs)
+    (λ c κs. search (puts, header-fields))
+    (λ c. search needs)
+    (λ c. search needs)
+    (λ c κs. search (puts, header-fields))
+    (λ c. search needs)
+    (λ c. search (puts, header-fields))
+    (λ c. search needs)
+    (λ c. search (puts, header-fields)))

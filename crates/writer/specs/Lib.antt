@@ -1,0 +1,2 @@
+-- What writing a file comes to.
+pub mod Put

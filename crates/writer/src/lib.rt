@@ -1,0 +1,312 @@
+// Writes the file that a table holds as text into a buffer that is lent, and says beforehand how long the text is.
+// A function put_.. writes from place `at` on and returns the place past what it wrote; one .._len says how many bytes that is.
+use model::Grammar;
+use model::Header;
+use model::Line;
+use model::Table;
+ghost use mathlib.Core.Path.{_≡_};
+ghost use mathlib.Core.List.{[], _∷_};
+ghost use Prim.Native.Nat.{_+_, _≤_, _<_};
+ghost use lib.ListN.{length};
+ghost use lib.IntN.{natAbs};
+ghost use Rattle.fields.specs.Pieces.{tab, join};
+ghost use Rattle.fields.specs.Numbers.{decimal, amountText};
+ghost use Rattle.text.specs.Files.{fileOf};
+ghost use Rattle.text.specs.Write.{fieldsOf, headerFieldsOf, fieldsText, lineText, fileText};
+ghost use Rattle.writer.specs.Put.{Put, Written, Counted, isNegative};
+
+// ---- bytes
+fn put_byte(out: &mut [u8], at: usize, byte: u8) -> usize
+    requires { ⌜ at < length (now out) ⌝ }
+    ensures { λ r. ⌜ Put (now (out .entry)) at (byte ∷ []) r (now (out .exit)) ⌝ }
+{
+    out[at] = byte;
+    at + 1
+}
+
+fn put_bytes(out: &mut [u8], at: usize, bytes: &[u8]) -> usize
+    requires { ⌜ at + length (now bytes) ≤ length (now out) ⌝ }
+    ensures { λ r. ⌜ Put (now (out .entry)) at (now (bytes .entry)) r (now (out .exit)) ⌝ }
+{
+    let mut i = 0;
+    while i < bytes.len() {
+        out[at + i] = bytes[i];
+        i += 1;
+    }
+    at + i
+}
+
+// ---- numbers, in decimal digits
+fn put_number(out: &mut [u8], at: usize, n: u32) -> usize
+    requires { ⌜ at + length (decimal n) ≤ length (now out) ⌝ }
+    ensures { λ r. ⌜ Put (now (out .entry)) at (decimal n) r (now (out .exit)) ⌝ }
+{
+    if n < 10 {
+        return put_byte(out, at, b'0' + (n as u8));
+    }
+    let next = put_number(out, at, n / 10);
+    put_byte(out, next, b'0' + ((n % 10) as u8))
+}
+
+fn number_len(n: u32) -> usize
+    ensures { λ r. ⌜ Counted (decimal n) 20 r ⌝ }
+{
+    if n < 10 {
+        return 1;
+    }
+    number_len(n / 10) + 1
+}
+
+fn is_negative(amount: i32) -> bool
+    ensures { λ r. ⌜ r ≡ isNegative amount ⌝ }
+{
+    amount < 0
+}
+
+fn magnitude(amount: i32) -> u32
+    ensures { λ r. ⌜ r ≡ natAbs amount ⌝ }
+{
+    if amount < 0 {
+        return (0 - (amount as i64)) as u32;
+    }
+    amount as u32
+}
+
+// A rotation amount: its digits, after a minus if it is below 0.
+fn put_amount(out: &mut [u8], at: usize, amount: i32) -> usize
+    requires { ⌜ at + length (amountText amount) ≤ length (now out) ⌝ }
+    ensures { λ r. ⌜ Put (now (out .entry)) at (amountText amount) r (now (out .exit)) ⌝ }
+{
+    let n = magnitude(amount);
+    if is_negative(amount) {
+        let next = put_byte(out, at, b'-');
+        return put_number(out, next, n);
+    }
+    put_number(out, at, n)
+}
+
+fn amount_len(amount: i32) -> usize
+    ensures { λ r. ⌜ Counted (amountText amount) 21 r ⌝ }
+{
+    let digits = number_len(magnitude(amount));
+    if is_negative(amount) {
+        return digits + 1;
+    }
+    digits
+}
+
+// ---- fields: a field with the tab before it, and a word with one to three fields
+fn put_number_field(out: &mut [u8], at: usize, n: u32) -> usize
+    requires { ⌜ at + length (tab ∷ decimal n) ≤ length (now out) ⌝ }
+    ensures { λ r. ⌜ Put (now (out .entry)) at (tab ∷ decimal n) r (now (out .exit)) ⌝ }
+{
+    let next = put_byte(out, at, b'\t');
+    put_number(out, next, n)
+}
+
+fn put_amount_field(out: &mut [u8], at: usize, amount: i32) -> usize
+    requires { ⌜ at + length (tab ∷ amountText amount) ≤ length (now out) ⌝ }
+    ensures { λ r. ⌜ Put (now (out .entry)) at (tab ∷ amountText amount) r (now (out .exit)) ⌝ }
+{
+    let next = put_byte(out, at, b'\t');
+    put_amount(out, next, amount)
+}
+
+fn put_one(out: &mut [u8], at: usize, word: &[u8], a: u32) -> usize
+    requires { ⌜ at + length (join tab (now word ∷ decimal a ∷ [])) ≤ length (now out) ⌝ }
+    ensures { λ r. ⌜ Put (now (out .entry)) at (join tab (now (word .entry) ∷ decimal a ∷ [])) r (now (out .exit)) ⌝ }
+{
+    let next = put_bytes(out, at, word);
+    put_number_field(out, next, a)
+}
+
+fn put_two(out: &mut [u8], at: usize, word: &[u8], a: u32, b: u32) -> usize
+    requires { ⌜ at + length (join tab (now word ∷ decimal a ∷ decimal b ∷ [])) ≤ length (now out) ⌝ }
+    ensures { λ r. ⌜ Put (now (out .entry)) at (join tab (now (word .entry) ∷ decimal a ∷ decimal b ∷ [])) r (now (out .exit)) ⌝ }
+{
+    let next = put_one(out, at, word, a);
+    put_number_field(out, next, b)
+}
+
+fn put_three(out: &mut [u8], at: usize, word: &[u8], a: u32, b: u32, c: u32) -> usize
+    requires { ⌜ at + length (join tab (now word ∷ decimal a ∷ decimal b ∷ decimal c ∷ [])) ≤ length (now out) ⌝ }
+    ensures { λ r. ⌜ Put (now (out .entry)) at (join tab (now (word .entry) ∷ decimal a ∷ decimal b ∷ decimal c ∷ [])) r (now (out .exit)) ⌝ }
+{
+    let next = put_two(out, at, word, a, b);
+    put_number_field(out, next, c)
+}
+
+fn put_rot(out: &mut [u8], at: usize, word: &[u8], a: u32, amount: i32) -> usize
+    requires { ⌜ at + length (join tab (now word ∷ decimal a ∷ amountText amount ∷ [])) ≤ length (now out) ⌝ }
+    ensures { λ r. ⌜ Put (now (out .entry)) at (join tab (now (word .entry) ∷ decimal a ∷ amountText amount ∷ [])) r (now (out .exit)) ⌝ }
+{
+    let next = put_one(out, at, word, a);
+    put_amount_field(out, next, amount)
+}
+
+fn one_len(word: &[u8], a: u32) -> usize
+    requires { ⌜ length (now word) ≤ 8 ⌝ }
+    ensures { λ r. ⌜ Counted (join tab (now (word .entry) ∷ decimal a ∷ [])) 29 r ⌝ }
+{
+    word.len() + 1 + number_len(a)
+}
+
+fn two_len(word: &[u8], a: u32, b: u32) -> usize
+    requires { ⌜ length (now word) ≤ 8 ⌝ }
+    ensures { λ r. ⌜ Counted (join tab (now (word .entry) ∷ decimal a ∷ decimal b ∷ [])) 50 r ⌝ }
+{
+    one_len(word, a) + 1 + number_len(b)
+}
+
+fn three_len(word: &[u8], a: u32, b: u32, c: u32) -> usize
+    requires { ⌜ length (now word) ≤ 8 ⌝ }
+    ensures { λ r. ⌜ Counted (join tab (now (word .entry) ∷ decimal a ∷ decimal b ∷ decimal c ∷ [])) 71 r ⌝ }
+{
+    two_len(word, a, b) + 1 + number_len(c)
+}
+
+fn rot_len(word: &[u8], a: u32, amount: i32) -> usize
+    requires { ⌜ length (now word) ≤ 8 ⌝ }
+    ensures { λ r. ⌜ Counted (join tab (now (word .entry) ∷ decimal a ∷ amountText amount ∷ [])) 51 r ⌝ }
+{
+    one_len(word, a) + 1 + amount_len(amount)
+}
+
+// ---- lines: the fields by the word, then the line feed. A free record has no fields.
+fn put_fields(out: &mut [u8], at: usize, line: Line) -> usize
+    requires { ⌜ at + length (join tab (fieldsOf line)) ≤ length (now out) ⌝ }
+    ensures { λ r. ⌜ Put (now (out .entry)) at (join tab (fieldsOf line)) r (now (out .exit)) ⌝ }
+{
+    match line {
+        Line::In => put_bytes(out, at, b"in"),
+        Line::Const(k) => put_one(out, at, b"const", k),
+        Line::Neg(a) => put_one(out, at, b"neg", a),
+        Line::Rot(a, t) => put_rot(out, at, b"rot", a, t),
+        Line::Add(a, b) => put_two(out, at, b"add", a, b),
+        Line::Mul(a, b) => put_two(out, at, b"mul", a, b),
+        Line::Out(a) => put_one(out, at, b"out", a),
+        Line::Enc { of, scale, level } => put_three(out, at, b"enc", of, scale, level),
+        Line::Rs(a, c) => put_two(out, at, b"rs", a, c),
+        Line::Ms(a, c) => put_two(out, at, b"ms", a, c),
+        Line::Us(a, b) => put_two(out, at, b"us", a, b),
+        Line::Free => at,
+    }
+}
+
+fn fields_len(line: Line) -> usize
+    ensures { λ r. ⌜ Counted (join tab (fieldsOf line)) 71 r ⌝ }
+{
+    match line {
+        Line::In => 2,
+        Line::Const(k) => one_len(b"const", k),
+        Line::Neg(a) => one_len(b"neg", a),
+        Line::Rot(a, t) => rot_len(b"rot", a, t),
+        Line::Add(a, b) => two_len(b"add", a, b),
+        Line::Mul(a, b) => two_len(b"mul", a, b),
+        Line::Out(a) => one_len(b"out", a),
+        Line::Enc { of, scale, level } => three_len(b"enc", of, scale, level),
+        Line::Rs(a, c) => two_len(b"rs", a, c),
+        Line::Ms(a, c) => two_len(b"ms", a, c),
+        Line::Us(a, b) => two_len(b"us", a, b),
+        Line::Free => 0,
+    }
+}
+
+fn put_line(out: &mut [u8], at: usize, line: Line) -> usize
+    requires { ⌜ at + length (lineText line) ≤ length (now out) ⌝ }
+    ensures { λ r. ⌜ Put (now (out .entry)) at (lineText line) r (now (out .exit)) ⌝ }
+{
+    let end = put_fields(out, at, line);
+    put_byte(out, end, b'\n')
+}
+
+fn line_len(line: Line) -> usize
+    ensures { λ r. ⌜ Counted (lineText line) 72 r ⌝ }
+{
+    fields_len(line) + 1
+}
+
+// ---- the header line: a word and three numbers
+fn put_header_fields(out: &mut [u8], at: usize, grammar: Grammar, header: Header) -> usize
+    requires { ⌜ at + length (join tab (headerFieldsOf grammar header)) ≤ length (now out) ⌝ }
+    ensures { λ r. ⌜ Put (now (out .entry)) at (join tab (headerFieldsOf grammar header)) r (now (out .exit)) ⌝ }
+{
+    match grammar {
+        Grammar::Circuit => put_three(
+            out,
+            at,
+            b"circuit",
+            header.factor,
+            header.waterline,
+            header.top,
+        ),
+        Grammar::Schedule => put_three(
+            out,
+            at,
+            b"schedule",
+            header.factor,
+            header.waterline,
+            header.top,
+        ),
+    }
+}
+
+fn header_fields_len(grammar: Grammar, header: Header) -> usize
+    ensures { λ r. ⌜ Counted (join tab (headerFieldsOf grammar header)) 71 r ⌝ }
+{
+    match grammar {
+        Grammar::Circuit => three_len(b"circuit", header.factor, header.waterline, header.top),
+        Grammar::Schedule => three_len(b"schedule", header.factor, header.waterline, header.top),
+    }
+}
+
+fn put_header(out: &mut [u8], at: usize, grammar: Grammar, header: Header) -> usize
+    requires { ⌜ at + length (fieldsText (headerFieldsOf grammar header)) ≤ length (now out) ⌝ }
+    ensures { λ r. ⌜ Put (now (out .entry)) at (fieldsText (headerFieldsOf grammar header)) r (now (out .exit)) ⌝ }
+{
+    let next = put_header_fields(out, at, grammar, header);
+    put_byte(out, next, b'\n')
+}
+
+fn header_len(grammar: Grammar, header: Header) -> usize
+    ensures { λ r. ⌜ Counted (fieldsText (headerFieldsOf grammar header)) 72 r ⌝ }
+{
+    header_fields_len(grammar, header) + 1
+}
+
+// ---- the file
+// How long the text is.
+pub fn file_len(grammar: Grammar, t: Table) -> usize
+    requires { ⌜ t .count ≤ 1792 ⌝ }
+    ensures { λ r. ⌜ r ≡ length (fileText grammar (fileOf t)) ⌝ }
+{
+    let header = t.header;
+    let count = t.count;
+    let mut total = header_len(grammar, header);
+    let mut i: usize = 0;
+    while i < count {
+        let record = t.lines[i];
+        let line = record.line;
+        total += line_len(line);
+        i += 1;
+    }
+    total
+}
+
+// Writes the text at the front of the buffer, of which nothing else changes, and returns its length.
+pub fn put_file(out: &mut [u8], grammar: Grammar, t: Table) -> usize
+    requires { ⌜ (t .count ≤ 1792) × (length (fileText grammar (fileOf t)) ≤ length (now out)) ⌝ }
+    ensures { λ r. ⌜ Written (now (out .entry)) (fileText grammar (fileOf t)) r (now (out .exit)) ⌝ }
+{
+    let header = t.header;
+    let count = t.count;
+    let mut at = put_header(out, 0, grammar, header);
+    let mut i: usize = 0;
+    while i < count {
+        let record = t.lines[i];
+        let line = record.line;
+        at = put_line(out, at, line);
+        i += 1;
+    }
+    at
+}
