@@ -24,7 +24,8 @@ use Rattle.lines.specs.Kinds.{codeOf, codes}
 use Rattle.reader.specs.Reads.{nextLine, linesOf, keptWith}
 use Rattle.reader.proofs.Slices.{after, after-is}
 use Rattle.reader.proofs.Numbered.{line-number}
-use Rattle.reader.proofs.LineLaws.{kept-with, kept-within, no-line, one-line, Taken, line-taken}
+use Rattle.text.proofs.FileLaws.{kept-most}
+use Rattle.reader.proofs.LineLaws.{kept-with, no-line, one-line, Taken, line-taken}
 
 abbrev lineOf : Record → Line
 lineOf r = r .line
@@ -118,7 +119,7 @@ module _ {c : Context} {h : Header} {text : Bytes} {t : Table} {kinds : List ℕ
       line-room = omega (arith, lines-held, f .small, taken .below)
 
       pub kept-room : kept < 1792
-      kept-room = omega (arith, line-room, lines-held, f .counted, kept-within (tableLines t))
+      kept-room = omega (arith, line-room, lines-held, f .counted, kept-most (tableLines t))
 
       module _ (code : ℕ) (coded : code ≡ codeOf (kindOf x)) (kept′ : ℕ) (counted : kept′ ≡ keptWith kept x) where
         held-more : map (λ (r : Record). r .line) (take (t .count + 1) (set (t .lines) (t .count) (record { line = x }))) ≡ tableLines t ++ (x ∷ [])

@@ -1,7 +1,7 @@
 -- The laws of `readText` and `readLines` by which the reader goes: the header line, a line more, the end. Assumes nothing.
 use Prim.Native.Nat.{ℕ, suc, _+_, _≤_, _<_}
 use native.Mathlib.Omega.{arith}
-use mathlib.Core.Path.{_≡_, refl, sym}
+use mathlib.Core.Path.{_≡_, refl, sym, _∙_}
 use mathlib.Core.Bool.{Bool, true, false, cond}
 use mathlib.Core.List.{List, [], _∷_, _++_}
 use mathlib.Core.Logic.{⊎-elim}
@@ -19,27 +19,18 @@ use Rattle.text.specs.declared.Context.{Context}
 use Rattle.text.specs.declared.LineRead.{LineRead}
 use Rattle.text.specs.declared.LineRead.the-variants.{Good, Bad}
 use Rattle.text.specs.Lines.{readLine}
-use Rattle.text.specs.Files.{Reading, read, refused, keptCount, tooMany, onward, readLines, afterHeader, readHeader, readPieces, readText}
+use Rattle.text.specs.Files.{Reading, read, refused, keptCount, tooMany, onward, readLines, afterHeader, readHeader, readText}
+use Rattle.text.proofs.FileLaws as FileLaws
+use Rattle.text.proofs.FileLaws.{kept-append, headed}
 use Rattle.reader.specs.Reads.{nextLine, linesOf, keptWith}
 
 -- ---- kept lines
-one-more : (b d : Bool) (k : ℕ) → cond b (suc (cond d (k + 1) k)) (cond d (k + 1) k) ≡ cond d (cond b (suc k) k + 1) (cond b (suc k) k)
-one-more true true k = omega arith
-one-more true false k = refl
-one-more false true k = refl
-one-more false false k = refl
-
 pub kept-with : (done : List Line) (x : Line) → keptCount (done ++ (x ∷ [])) ≡ keptWith (keptCount done) x
-kept-with [] x = refl
-kept-with (y ∷ ys) x = rw (kept-with ys x) (one-more (isCircuitWord y) (isCircuitWord x) (keptCount ys))
-
-pub kept-within : (done : List Line) → keptCount done ≤ length done
-kept-within [] = omega arith
-kept-within (x ∷ xs) = go (isCircuitWord x) (kept-within xs)
+kept-with done x = go (isCircuitWord x) (kept-append done (x ∷ []))
   where
-    go : (b : Bool) → keptCount xs ≤ length xs → cond b (suc (keptCount xs)) (keptCount xs) ≤ suc (length xs)
-    go true h = omega arith
-    go false h = omega arith
+    go : (b : Bool) → keptCount (done ++ (x ∷ [])) ≡ keptCount done + cond b 1 0 → keptCount (done ++ (x ∷ [])) ≡ cond b (keptCount done + 1) (keptCount done)
+    go true e = e
+    go false e = omega arith
 
 -- ---- where no byte x is found, it would stand past the end
 at-end : (text : Bytes) → length text ≤ before lineFeed text → before lineFeed text ≡ length text
@@ -70,11 +61,7 @@ module _ (c : Context) where
   unfolding readText
   header-line text l =
       rw (split-cut lineFeed text l)
-      (go (take (before lineFeed text) text) (split lineFeed (drop (suc (before lineFeed text)) text)) (split-some lineFeed (drop (suc (before lineFeed text)) text)))
-    where
-      go : (p : Bytes) (ps : List Bytes) → 1 ≤ length ps → readPieces c (p ∷ ps) ≡ afterHeader (readHeader (c .grammar) p) (λ h. readLines c h ps [])
-      go p [] s = absurd (omega arith)
-      go p (q ∷ ps) s = refl
+      (headed c (take (before lineFeed text) text) (split lineFeed (drop (suc (before lineFeed text)) text)) (split-some lineFeed (drop (suc (before lineFeed text)) text)))
 
   -- ---- the lines
   module _ (h : Header) where
@@ -108,10 +95,8 @@ module _ (c : Context) where
         (p : Bytes) (ps : List Bytes) (done : List Line) → 1 ≤ length ps →
         readLines c h (p ∷ ps) done
         ≡ onward (cond (tooMany c done p) (Bad 3 (placeOf (length done))) (readLine (c .grammar) h done p)) (λ x. readLines c h ps (done ++ (x ∷ [])))
-    unfolding readLines
-    one-piece p [] done s = absurd (omega arith)
-    one-piece p (q ∷ ps) done s =
-        one-of (tooMany c done p) 3 (placeOf (length done)) (readLine (c .grammar) h done p) (λ x. readLines c h (q ∷ ps) (done ++ (x ∷ [])))
+    one-piece p ps done s =
+        FileLaws.closed c h p ps done s ∙ one-of (tooMany c done p) 3 (placeOf (length done)) (readLine (c .grammar) h done p) (λ x. readLines c h ps (done ++ (x ∷ [])))
 
     closed :
         (text : Bytes) (done : List Line) → before lineFeed text < length text →
