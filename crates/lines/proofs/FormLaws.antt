@@ -20,11 +20,11 @@ use Rattle.fields.specs.declared.Amount.{Amount}
 use Rattle.fields.specs.declared.Amount.the-variants.{By, NoAmount}
 use Rattle.fields.proofs.PieceLaws.{before-within, split-some, split-cut, split-last}
 use Rattle.model.specs.declared.Grammar.{Grammar}
-use Rattle.text.specs.declared.Word.{Word}
+use Rattle.model.specs.declared.Word.{Word}
 use Rattle.text.specs.declared.Form.{Form}
 use Rattle.text.specs.declared.Form.the-variants.{Unformed}
-use Rattle.text.specs.Words.{arity, isKeptWord, isWordOf, wordNamed}
-use Rattle.text.specs.Lines.{shape, notOfForm, isRot, second, shapeOf, formOf}
+use Rattle.text.specs.Words.{arity, takesAmount, isKeptWord, isWordOf, wordNamed}
+use Rattle.text.specs.Lines.{shape, notOfForm, second, shapeOf, formOf}
 use Rattle.text.specs.Files.{beginsKept}
 
 -- ---- a word and its fields
@@ -91,7 +91,7 @@ module _ (g : Grammar) (place : ℕ) (w : Word) (t : Bool) where
           three-formed k e″ = rw (← q, h, ← p, e, ← p′, e′, ← p″, e″)
 
 -- ---- the second field
-module _ (place : ℕ) (w : Word) (n : ℕ) (b : Bytes) (t : Bool) (q : t ≡ isRot w) where
+module _ (place : ℕ) (w : Word) (n : ℕ) (b : Bytes) (t : Bool) (q : t ≡ takesAmount w) where
   module _ (h : t ≡ true) (x : Amount) (p : x ≡ amountOf b) where
     pub turn-other : x ≡ NoAmount → Unformed 1 place ≡ second place w n b
     turn-other e = rw (← q, h, ← p, e)

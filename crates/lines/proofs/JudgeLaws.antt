@@ -6,7 +6,7 @@ use mathlib.Core.Path.{_≡_, refl, sym, ap, ap₂, _∙_, subst}
 use mathlib.Core.Bool.{Bool, true, false, _&&_}
 use mathlib.Core.List.{List, [], _∷_}
 use borrow.Author.Needs.{needs}
-use borrow.Author.Tests.{not-true, not-false}
+use borrow.Author.Tests.{not-true, not-false, le-leb}
 use lib.Dec.{T, leb, leb→le, lit≤}
 use lib.IntN.{ℤ, pos, negsuc, negℤ}
 use lib.Signed.{leZ}
@@ -15,14 +15,17 @@ use mir.Syntax.{w32, w64}
 use mir.Val.{Fits, SFits, toZ, ofZ}
 use mir.ValLaws.{toZ-ofZ}
 use Rattle.model.specs.declared.Grammar.{Grammar}
+use Rattle.model.specs.declared.Grammar.the-variants.{Circuit, Schedule}
 use Rattle.model.specs.declared.Header.{Header}
 use Rattle.model.specs.declared.Line.{Line}
 use Rattle.model.specs.declared.Kind.{Kind}
 use Rattle.model.specs.Scales.{within}
-use Rattle.model.proofs.Tests.{and-first, and-second, within-facts}
+use Rattle.model.proofs.Tests.{and-first, and-second, within-facts, level-most}
+use Rattle.model.specs.Words.{levelsFrom, levelsTo}
 use Rattle.model.specs.Files.{inRange, operands, kindAt, isUsable, everyUsable, kindsFit}
-use Rattle.text.specs.declared.Word.{Word}
-use Rattle.text.specs.declared.Word.the-variants.{In, Const, Neg, Rot, Add, Mul, Out, Enc, Rs, Ms, Us, NoWord}
+use Rattle.model.specs.declared.Word.{Word}
+use Rattle.model.specs.declared.Word.the-variants.{In, Const, Neg, Rot, Add, Mul, Out, Enc, Rs, Ms, Us, NoWord}
+use Rattle.text.specs.declared.Context.{Context}
 use Rattle.text.specs.declared.Shape.{Shape}
 use Rattle.text.specs.declared.LineRead.the-variants.{Good, Bad}
 use Rattle.text.specs.Lines.{lineFor, shapeLine, judged}
@@ -34,24 +37,38 @@ use Rattle.lines.specs.Judging.{operandsOf, usableBy, kindsFitBy, Small,
 
 -- ---- the word decides
 module _ (w v : Word) (e : w ≡ v) where
-  pub range-by : (h : Header) (a b c : ℕ) (t : ℤ) (r : Bool) → r ≡ inRange h (lineFor v a b c t) → r ≡ inRange h (lineFor w a b c t)
-  range-by h a b c t r q = rw e q
+  pub range-by : (g : Grammar) (h : Header) (a b c : ℕ) (t : ℤ) (r : Bool) → r ≡ inRange g h (lineFor v a b c t) → r ≡ inRange g h (lineFor w a b c t)
+  range-by g h a b c t r q = rw e q
 
   pub line-by : (a b c : ℕ) (t : ℤ) (x : Line) → x ≡ lineFor v a b c t → x ≡ lineFor w a b c t
   line-by a b c t x q = rw e q
 
+-- a constant's number: from zero means no more than up to its most
+from-zero : (most n : ℕ) → leb n most ≡ within 0 most n
+from-zero most n = rw (le-leb 0 n (omega arith))
+
+pub constant-range : (w : Word) (g : Grammar) (h : Header) (a b c : ℕ) (t : ℤ) → w ≡ Const → leb a 65535 ≡ inRange g h (lineFor w a b c t)
+constant-range w g h a b c t e = rw e (from-zero 65535 a)
+
 -- an encoded constant's scale, then its level
-module _ (w : Word) (h : Header) (a b c : ℕ) (t : ℤ) (e : w ≡ Enc) (u : Bool) (q : u ≡ within 1 3600 b) where
-  pub level-range : (r : Bool) → u ≡ true → r ≡ within 1 (h .top) c → r ≡ inRange h (lineFor w a b c t)
+module _ (w : Word) (g : Grammar) (h : Header) (a b c : ℕ) (t : ℤ) (e : w ≡ Enc) (u : Bool) (q : u ≡ within 1 3600 b) where
+  pub level-range : (r : Bool) → u ≡ true → r ≡ within (levelsFrom g) (levelsTo g h) c → r ≡ inRange g h (lineFor w a b c t)
   level-range r o p = rw (e, ← q, o) p
 
-  pub scale-range : u ≡ false → false ≡ inRange h (lineFor w a b c t)
+  pub scale-range : u ≡ false → false ≡ inRange g h (lineFor w a b c t)
   scale-range o = rw (e, ← q, o)
 
 -- a rotation's amount, as the machine holds it
-pub turn-range : (w : Word) (h : Header) (a b c : ℕ) (t : ℤ) (r : Bool) → w ≡ Rot → SFits w64 t
-    → r ≡ (leZ (negℤ (pos 32767)) (toZ w64 (ofZ w64 t)) && leZ (toZ w64 (ofZ w64 t)) (pos 32767)) → r ≡ inRange h (lineFor w a b c t)
-turn-range w h a b c t r e s q = rw e (rw (toZ-ofZ w64 t s) at q)
+pub turn-range : (w : Word) (g : Grammar) (h : Header) (a b c : ℕ) (t : ℤ) (r : Bool) → w ≡ Rot → SFits w64 t
+    → r ≡ (leZ (negℤ (pos 32767)) (toZ w64 (ofZ w64 t)) && leZ (toZ w64 (ofZ w64 t)) (pos 32767)) → r ≡ inRange g h (lineFor w a b c t)
+turn-range w g h a b c t r e s q = rw e (rw (toZ-ofZ w64 t s) at q)
+
+-- the levels of a file
+pub circuit-level : (g : Grammar) (h : Header) (n : ℕ) (r : Bool) → g ≡ Circuit → r ≡ within 1 (h .top) n → r ≡ within (levelsFrom g) (levelsTo g h) n
+circuit-level g h n r e q = rw e q
+
+pub schedule-level : (g : Grammar) (h : Header) (n : ℕ) (r : Bool) → g ≡ Schedule → r ≡ within 1 (h .top) n → r ≡ within (levelsFrom g) (levelsTo g h) n
+schedule-level g h n r e q = rw e q
 
 -- ---- what the operands are decides
 module _ (o v : Operands) (e : o ≡ v) (j k : Kind) (r : Bool) where
@@ -119,22 +136,22 @@ turn-small (negsuc n) r = record { sfits = omega (arith, leb→le n 32766 (and-f
 no-turn : {t : ℤ} → t ≡ pos 0 → SFits w32 t
 no-turn e = rw e (record { sfits = omega arith })
 
-up-to : (most n : ℕ) → T (within 1 most n) → n ≤ most
-up-to most n r = within-facts 1 most n r .most
+up-to : (low most n : ℕ) → T (within low most n) → n ≤ most
+up-to low most n r = within-facts low most n r .most
 
-module _ (h : Header) (top : Fits w32 (h .top)) (n : ℕ) (few : n ≤ 1792) (a b c : ℕ) (t : ℤ) (j k : Kind) (named : T (isUsable j) → a < n) (named′ : T (isUsable k) → b < n) where
-  small : (w : Word) → Tidy (shaped w a b c t) → T (inRange h (lineFor w a b c t)) → T (usableBy (operandsOf w) j k) → Small (shaped w a b c t)
+module _ (g : Grammar) (h : Header) (top : Fits w32 (h .top)) (n : ℕ) (few : n ≤ 1792) (a b c : ℕ) (t : ℤ) (j k : Kind) (named : T (isUsable j) → a < n) (named′ : T (isUsable k) → b < n) where
+  small : (w : Word) → Tidy (shaped w a b c t) → T (inRange g h (lineFor w a b c t)) → T (usableBy (operandsOf w) j k) → Small (shaped w a b c t)
   small In d r u = record { first = record { fits = omega (arith, d .first refl) }; second = record { fits = omega (arith, d .second (lit≤ tt)) }; third = record { fits = omega (arith, d .third (lit≤ tt)) }; turn = no-turn (d .turn tt) }
-  small Const d r u = record { first = record { fits = omega (arith, leb→le a 65535 r) }; second = record { fits = omega (arith, d .second (lit≤ tt)) }; third = record { fits = omega (arith, d .third (lit≤ tt)) }; turn = no-turn (d .turn tt) }
+  small Const d r u = record { first = record { fits = omega (arith, up-to 0 65535 a r) }; second = record { fits = omega (arith, d .second (lit≤ tt)) }; third = record { fits = omega (arith, d .third (lit≤ tt)) }; turn = no-turn (d .turn tt) }
   small Neg d r u = record { first = record { fits = omega (arith, named u) }; second = record { fits = omega (arith, d .second (lit≤ tt)) }; third = record { fits = omega (arith, d .third (lit≤ tt)) }; turn = no-turn (d .turn tt) }
   small Rot d r u = record { first = record { fits = omega (arith, named u) }; second = record { fits = omega (arith, d .amount tt) }; third = record { fits = omega (arith, d .third (lit≤ tt)) }; turn = turn-small t r }
   small Add d r u = record { first = record { fits = omega (arith, named (and-first (isUsable j) (isUsable k) u)) }; second = record { fits = omega (arith, named′ (and-second (isUsable j) (isUsable k) u)) }; third = record { fits = omega (arith, d .third (lit≤ tt)) }; turn = no-turn (d .turn tt) }
   small Mul d r u = record { first = record { fits = omega (arith, named (and-first (isUsable j) (isUsable k) u)) }; second = record { fits = omega (arith, named′ (and-second (isUsable j) (isUsable k) u)) }; third = record { fits = omega (arith, d .third (lit≤ tt)) }; turn = no-turn (d .turn tt) }
   small Out d r u = record { first = record { fits = omega (arith, named u) }; second = record { fits = omega (arith, d .second (lit≤ tt)) }; third = record { fits = omega (arith, d .third (lit≤ tt)) }; turn = no-turn (d .turn tt) }
-  small Enc d r u = record { first = record { fits = omega (arith, named u) }; second = record { fits = omega (arith, up-to 3600 b (and-first (within 1 3600 b) (within 1 (h .top) c) r)) }; third = record { fits = omega (arith, up-to (h .top) c (and-second (within 1 3600 b) (within 1 (h .top) c) r)) }; turn = no-turn (d .turn tt) }
-  small Rs d r u = record { first = record { fits = omega (arith, named u) }; second = record { fits = omega (arith, up-to 60 b r) }; third = record { fits = omega (arith, d .third (lit≤ tt)) }; turn = no-turn (d .turn tt) }
-  small Ms d r u = record { first = record { fits = omega (arith, named u) }; second = record { fits = omega (arith, up-to 60 b r) }; third = record { fits = omega (arith, d .third (lit≤ tt)) }; turn = no-turn (d .turn tt) }
-  small Us d r u = record { first = record { fits = omega (arith, named u) }; second = record { fits = omega (arith, up-to 3600 b r) }; third = record { fits = omega (arith, d .third (lit≤ tt)) }; turn = no-turn (d .turn tt) }
+  small Enc d r u = record { first = record { fits = omega (arith, named u) }; second = record { fits = omega (arith, up-to 1 3600 b (and-first (within 1 3600 b) (within (levelsFrom g) (levelsTo g h) c) r)) }; third = record { fits = omega (arith, level-most g h, up-to (levelsFrom g) (levelsTo g h) c (and-second (within 1 3600 b) (within (levelsFrom g) (levelsTo g h) c) r)) }; turn = no-turn (d .turn tt) }
+  small Rs d r u = record { first = record { fits = omega (arith, named u) }; second = record { fits = omega (arith, up-to 1 60 b r) }; third = record { fits = omega (arith, d .third (lit≤ tt)) }; turn = no-turn (d .turn tt) }
+  small Ms d r u = record { first = record { fits = omega (arith, named u) }; second = record { fits = omega (arith, up-to 1 60 b r) }; third = record { fits = omega (arith, d .third (lit≤ tt)) }; turn = no-turn (d .turn tt) }
+  small Us d r u = record { first = record { fits = omega (arith, named u) }; second = record { fits = omega (arith, up-to 1 3600 b r) }; third = record { fits = omega (arith, d .third (lit≤ tt)) }; turn = no-turn (d .turn tt) }
   small NoWord d r u = record { first = record { fits = omega (arith, d .first refl) }; second = record { fits = omega (arith, d .second (lit≤ tt)) }; third = record { fits = omega (arith, d .third (lit≤ tt)) }; turn = no-turn (d .turn tt) }
 
 -- an operand that can be used is the number of a line before
@@ -142,8 +159,8 @@ named : (kinds : List ℕ) (a : ℕ) → T (isUsable (kindCoded (getD kinds a 0)
 named kinds a u = elim (decLt a (length kinds)) [ yes h ↦ h | no h ↦ absurd (subst (λ (k : Kind). T (isUsable k)) (sym (past kinds a (omega arith))) u) ]
 
 -- ---- the verdict, test by test, for every list of lines with these kinds
-module _ (g : Grammar) (h : Header) (s : Shape) (kinds : List ℕ) (t : Bool) (q : t ≡ inRange h (shapeLine s)) where
-  pub out-of-range : t ≡ false → (lines : List Line) → codes lines ≡ kinds → Bad 11 (length kinds + 2) ≡ judged g h lines (shapeLine s)
+module _ (c : Context) (h : Header) (s : Shape) (kinds : List ℕ) (t : Bool) (q : t ≡ inRange (c .grammar) h (shapeLine s)) where
+  pub out-of-range : t ≡ false → (lines : List Line) → codes lines ≡ kinds → Bad 11 (length kinds + 2) ≡ judged c h lines (shapeLine s)
   out-of-range o lines e = rw (← q, o, coded-length lines kinds e)
 
   module _ (o : t ≡ true) (j k : Kind) (p : j ≡ kindCoded (getD kinds (s .first) 0)) (p′ : k ≡ kindCoded (getD kinds (s .second) 0)) (w : Operands) (i : w ≡ operandsOf (s .word)) (u : Bool) (q′ : u ≡ usableBy w j k) where
@@ -152,24 +169,24 @@ module _ (g : Grammar) (h : Header) (s : Shape) (kinds : List ℕ) (t : Bool) (q
         q′ ∙ ap (λ (v : Operands). usableBy v j k) i ∙ ap₂ (usableBy (operandsOf (s .word))) (p ∙ coded-kind lines kinds (s .first) e) (p′ ∙ coded-kind lines kinds (s .second) e)
         ∙ sym (operands-usable lines (s .first) (s .second) (s .third) (s .turn) (s .word))
 
-    pub not-usable : u ≡ false → (lines : List Line) → codes lines ≡ kinds → Bad 4 (length kinds + 2) ≡ judged g h lines (shapeLine s)
+    pub not-usable : u ≡ false → (lines : List Line) → codes lines ≡ kinds → Bad 4 (length kinds + 2) ≡ judged c h lines (shapeLine s)
     not-usable o′ lines e = rw (← q, o, ← usable-at lines e, o′, coded-length lines kinds e)
 
     module _ (o′ : u ≡ true) where
       pub numbers-small : Tidy s → length kinds ≤ 1792 → Fits w32 (h .top) → Small s
-      numbers-small d few top = small h top (length kinds) few (s .first) (s .second) (s .third) (s .turn) j k
+      numbers-small d few top = small (c .grammar) h top (length kinds) few (s .first) (s .second) (s .third) (s .turn) j k
           (λ x. named kinds (s .first) (rw p at x)) (λ x. named kinds (s .second) (rw p′ at x)) (s .word) d (rw (← q, o) tt) (rw (← i, ← q′, o′) tt)
 
-      module _ (v : Bool) (q″ : v ≡ kindsFitBy g w j k) where
-        fit-at : (lines : List Line) → codes lines ≡ kinds → v ≡ kindsFit g lines (shapeLine s)
+      module _ (v : Bool) (q″ : v ≡ kindsFitBy (c .grammar) w j k) where
+        fit-at : (lines : List Line) → codes lines ≡ kinds → v ≡ kindsFit (c .grammar) lines (shapeLine s)
         fit-at lines e =
-            q″ ∙ ap (λ (v : Operands). kindsFitBy g v j k) i ∙ ap₂ (kindsFitBy g (operandsOf (s .word))) (p ∙ coded-kind lines kinds (s .first) e) (p′ ∙ coded-kind lines kinds (s .second) e)
-            ∙ sym (operands-fit lines (s .first) (s .second) (s .third) (s .turn) g (s .word))
+            q″ ∙ ap (λ (v : Operands). kindsFitBy (c .grammar) v j k) i ∙ ap₂ (kindsFitBy (c .grammar) (operandsOf (s .word))) (p ∙ coded-kind lines kinds (s .first) e) (p′ ∙ coded-kind lines kinds (s .second) e)
+            ∙ sym (operands-fit lines (s .first) (s .second) (s .third) (s .turn) (c .grammar) (s .word))
 
-        pub not-fit : v ≡ false → (lines : List Line) → codes lines ≡ kinds → Bad 5 (length kinds + 2) ≡ judged g h lines (shapeLine s)
+        pub not-fit : v ≡ false → (lines : List Line) → codes lines ≡ kinds → Bad 5 (length kinds + 2) ≡ judged c h lines (shapeLine s)
         not-fit o″ lines e = rw (← q, o, ← usable-at lines e, o′, ← fit-at lines e, o″, coded-length lines kinds e)
 
-        pub fits : v ≡ true → (x : Line) → x ≡ shapeLine s → (lines : List Line) → codes lines ≡ kinds → Good x ≡ judged g h lines (shapeLine s)
+        pub fits : v ≡ true → (x : Line) → x ≡ shapeLine s → (lines : List Line) → codes lines ≡ kinds → Good x ≡ judged c h lines (shapeLine s)
         fits o″ x f lines e = rw (← q, o, ← usable-at lines e, o′, ← fit-at lines e, o″, f)
 
 -- the rotation amount of a line, as the machine holds it
@@ -180,6 +197,6 @@ wider (negsuc n) f = record { sfits = omega arith }
 pub small-line : (s : Shape) (x : Line) → Small s → x ≡ lineFor (s .word) (s .first) (s .second) (s .third) (toZ w32 (ofZ w32 (toZ w64 (ofZ w64 (s .turn))))) → x ≡ shapeLine s
 small-line s x m e = rw (toZ-ofZ w64 (s .turn) (wider (s .turn) (m .turn)), toZ-ofZ w32 (s .turn) (m .turn)) at e
 
-pub ruleset judge-laws = (needs, small-line, not-true, not-false, range-by, turn-range, level-range, scale-range, line-by, usable-by, fit-by, second-usable, first-unusable)
+pub ruleset judge-laws = (needs, small-line, not-true, not-false, range-by, constant-range, turn-range, circuit-level, schedule-level, level-range, scale-range, line-by, usable-by, fit-by, second-usable, first-unusable)
 
 pub ruleset verdicts = (needs, not-true, not-false, out-of-range, not-usable, not-fit, fits, numbers-small)

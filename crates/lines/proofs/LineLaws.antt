@@ -18,15 +18,16 @@ use Rattle.model.specs.declared.Grammar.{Grammar}
 use Rattle.model.specs.declared.Header.{Header}
 use Rattle.model.specs.declared.Line.{Line}
 use Rattle.model.proofs.Tests.{cond-cases, and-second}
-use Rattle.text.specs.declared.Word.{Word}
-use Rattle.text.specs.declared.Word.the-variants.{In, Const, Neg, Rot, Add, Mul, Out, Enc, Rs, Ms, Us, NoWord}
+use Rattle.model.specs.declared.Word.{Word}
+use Rattle.model.specs.declared.Word.the-variants.{In, Const, Neg, Rot, Add, Mul, Out, Enc, Rs, Ms, Us, NoWord}
+use Rattle.text.specs.declared.Context.{Context}
 use Rattle.text.specs.declared.Shape.{Shape}
 use Rattle.text.specs.declared.Form.{Form}
 use Rattle.text.specs.declared.Form.the-variants.{Shaped, Unformed}
 use Rattle.text.specs.declared.LineRead.{LineRead}
 use Rattle.text.specs.declared.LineRead.the-variants.{Bad}
-use Rattle.text.specs.Words.{arity, isWordOf, wordNamed}
-use Rattle.text.specs.Lines.{shape, notOfForm, onNumber, onAmount, ofWord, isRot, second, shapeOf, formOf, shapeLine, judged, formed, readLine}
+use Rattle.text.specs.Words.{arity, takesAmount, isWordOf, wordNamed}
+use Rattle.text.specs.Lines.{shape, notOfForm, onNumber, onAmount, ofWord, second, shapeOf, formOf, shapeLine, judged, formed, readLine}
 use Rattle.lines.specs.Kinds.{codes}
 use Rattle.lines.specs.Judging.{Tidy}
 use Rattle.lines.proofs.KindLaws.{coded-length}
@@ -42,7 +43,7 @@ unformed-tidy n p s e = absurd (let z : _≡_ {A = ℕ} 0 1 = cc in omega arith)
 shaped-tidy : (r : Shape) → Tidy r → TidyForm (Shaped r)
 shaped-tidy r d s e = let same : r ≡ s = cc in subst Tidy same d
 
-rot-two : (w : Word) → T (isRot w) → arity w ≡ 2
+rot-two : (w : Word) → T (takesAmount w) → arity w ≡ 2
 rot-two In t = absurd t
 rot-two Const t = absurd t
 rot-two Neg t = absurd t
@@ -73,11 +74,11 @@ module _ (place : ℕ) where
 
     second-tidy : (n : ℕ) (b : Bytes) → arity w ≡ 2 → TidyForm (second place w n b)
     second-tidy n b e =
-        cond-cases TidyForm (isRot w) (onAmount place (λ k. shape w n 0 0 k) (amountOf b)) (onNumber place (λ m. shape w n m 0 (pos 0)) (numberOf b))
+        cond-cases TidyForm (takesAmount w) (onAmount place (λ k. shape w n 0 0 k) (amountOf b)) (onNumber place (λ m. shape w n m 0 (pos 0)) (numberOf b))
         (λ t. amount-tidy (λ k. shape w n 0 0 k) (amountOf b) (λ k. shaped-tidy (record { word = w; first = n; second = 0; third = 0; turn = k })
-        (record { first = λ z. absurd (omega arith); second = λ z. refl; third = λ z. refl; amount = λ z. refl; turn = λ z. absurd (never (isRot w) t z) })))
+        (record { first = λ z. absurd (omega arith); second = λ z. refl; third = λ z. refl; amount = λ z. refl; turn = λ z. absurd (never (takesAmount w) t z) })))
         (λ t. number-tidy (λ m. shape w n m 0 (pos 0)) (numberOf b) (λ m. shaped-tidy (record { word = w; first = n; second = m; third = 0; turn = pos 0 })
-        (record { first = λ z. absurd (omega arith); second = λ z. absurd (omega arith); third = λ z. refl; amount = λ z. absurd (never (isRot w) z t); turn = λ z. refl })))
+        (record { first = λ z. absurd (omega arith); second = λ z. absurd (omega arith); third = λ z. refl; amount = λ z. absurd (never (takesAmount w) z t); turn = λ z. refl })))
       where
         never : (b : Bool) → T b → T (not b) → ⊥
         never true t u = u
@@ -106,20 +107,20 @@ form-tidy g place [] = unformed-tidy 1 place
 form-tidy g place (w ∷ fields) = fields-tidy place g (wordNamed w) fields
 
 -- ---- a line's reading
-module _ (g : Grammar) (h : Header) (kinds : List ℕ) (bytes : Bytes) (f : Form) (q : f ≡ formOf g (length kinds + 2) (split tab bytes)) where
+module _ (c : Context) (h : Header) (kinds : List ℕ) (bytes : Bytes) (f : Form) (q : f ≡ formOf (c .grammar) (length kinds + 2) (split tab bytes)) where
   pub tidy-read : (s : Shape) → f ≡ Shaped s → Tidy s
-  tidy-read s e = form-tidy g (length kinds + 2) (split tab bytes) s (sym q ∙ e)
+  tidy-read s e = form-tidy (c .grammar) (length kinds + 2) (split tab bytes) s (sym q ∙ e)
 
-  form-at : (lines : List Line) → codes lines ≡ kinds → f ≡ formOf g (length lines + 2) (split tab bytes)
-  form-at lines e = q ∙ ap (λ (n : ℕ). formOf g (n + 2) (split tab bytes)) (sym (coded-length lines kinds e))
+  form-at : (lines : List Line) → codes lines ≡ kinds → f ≡ formOf (c .grammar) (length lines + 2) (split tab bytes)
+  form-at lines e = q ∙ ap (λ (n : ℕ). formOf (c .grammar) (n + 2) (split tab bytes)) (sym (coded-length lines kinds e))
 
-  pub shaped-read : (s : Shape) (r : LineRead) → f ≡ Shaped s → ((lines : List Line) → codes lines ≡ kinds → r ≡ judged g h lines (shapeLine s))
-      → (lines : List Line) → codes lines ≡ kinds → r ≡ readLine g h lines bytes
+  pub shaped-read : (s : Shape) (r : LineRead) → f ≡ Shaped s → ((lines : List Line) → codes lines ≡ kinds → r ≡ judged c h lines (shapeLine s))
+      → (lines : List Line) → codes lines ≡ kinds → r ≡ readLine c h lines bytes
   unfolding readLine
-  shaped-read s r p j lines e = j lines e ∙ ap (formed g h lines) (sym p ∙ form-at lines e)
+  shaped-read s r p j lines e = j lines e ∙ ap (formed c h lines) (sym p ∙ form-at lines e)
 
-  pub unformed-read : (n p : ℕ) → f ≡ Unformed n p → (lines : List Line) → codes lines ≡ kinds → Bad n p ≡ readLine g h lines bytes
+  pub unformed-read : (n p : ℕ) → f ≡ Unformed n p → (lines : List Line) → codes lines ≡ kinds → Bad n p ≡ readLine c h lines bytes
   unfolding readLine
-  unformed-read n p u lines e = ap (formed g h lines) (sym u ∙ form-at lines e)
+  unformed-read n p u lines e = ap (formed c h lines) (sym u ∙ form-at lines e)
 
 pub ruleset line-laws = (needs, tidy-read, shaped-read, unformed-read)

@@ -8,10 +8,9 @@ use Rattle.fields.specs.Pieces.{Bytes, sameBytes}
 use Rattle.fields.proofs.PieceLaws.{same-bytes}
 use Rattle.model.specs.declared.Grammar.{Grammar}
 use Rattle.model.specs.declared.Grammar.the-variants.{Schedule}
-use Rattle.text.specs.declared.Word.{Word}
-use Rattle.text.specs.declared.Word.the-variants.{In, Const, Neg, Rot, Add, Mul, Out, Enc, Rs, Ms, Us, NoWord}
-use Rattle.text.specs.Words.{wordText, arity, isKeptWord, isAnyWord, isWordOf, wordNamed}
-use Rattle.text.specs.Lines.{isRot}
+use Rattle.model.specs.declared.Word.{Word}
+use Rattle.model.specs.declared.Word.the-variants.{In, Const, Neg, Rot, Add, Mul, Out, Enc, Rs, Ms, Us, NoWord}
+use Rattle.text.specs.Words.{wordText, arity, takesAmount, isKeptWord, isAnyWord, isWordOf, wordNamed}
 use Rattle.text.proofs.WordLaws.{named-word}
 use Rattle.lines.specs.Words.{order}
 
@@ -58,7 +57,7 @@ any-order Ms = refl
 any-order Us = refl
 any-order NoWord = refl
 
-rot-order : (w : Word) → eqb (order w) 3 ≡ isRot w
+rot-order : (w : Word) → eqb (order w) 3 ≡ takesAmount w
 rot-order In = refl
 rot-order Const = refl
 rot-order Neg = refl
@@ -79,7 +78,7 @@ module _ (w : Word) (n : ℕ) (q : n ≡ order w) where
   pub schedule-by : (g : Grammar) → g ≡ Schedule → ltb n 11 ≡ isWordOf g w
   schedule-by g e = rw (e, q) (any-order w)
 
-  pub rot-by : eqb n 3 ≡ isRot w
+  pub rot-by : eqb n 3 ≡ takesAmount w
   rot-by = rw q (rot-order w)
 
 module _ (g : Grammar) (w : Word) (n : ℕ) (t : Bool) (q : t ≡ isWordOf g w) where

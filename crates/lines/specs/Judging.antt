@@ -9,13 +9,12 @@ use mir.Val.{Fits, SFits}
 use Rattle.model.specs.declared.Grammar.{Grammar}
 use Rattle.model.specs.declared.Kind.{Kind}
 use Rattle.model.specs.Files.{isCiphertext, isConstant, isUsable, isPair}
-use Rattle.text.specs.declared.Word.{Word}
-use Rattle.text.specs.declared.Word.the-variants.{In, Const, Neg, Rot, Add, Mul, Out, Enc, Rs, Ms, Us, NoWord}
+use Rattle.model.specs.declared.Word.{Word}
+use Rattle.model.specs.declared.Word.the-variants.{In, Const, Neg, Rot, Add, Mul, Out, Enc, Rs, Ms, Us, NoWord}
 use Rattle.text.specs.declared.Shape.{Shape}
 use Rattle.lines.specs.declared.judging.Operands.{Operands}
 use Rattle.lines.specs.declared.judging.Operands.the-variants.{NoOperand, Ciphertext, Constant, Pair}
-use Rattle.text.specs.Words.{arity}
-use Rattle.text.specs.Lines.{isRot}
+use Rattle.text.specs.Words.{arity, takesAmount}
 
 -- what a word's operands are
 abbrev pub operandsOf : Word → Operands
@@ -56,5 +55,5 @@ pub record Tidy (s : Shape) : Type 0 where
   pub first : arity (s .word) ≡ 0 → s .first ≡ 0
   pub second : arity (s .word) ≤ 1 → s .second ≡ 0
   pub third : arity (s .word) ≤ 2 → s .third ≡ 0
-  pub amount : T (isRot (s .word)) → s .second ≡ 0
-  pub turn : T (not (isRot (s .word))) → s .turn ≡ pos 0
+  pub amount : T (takesAmount (s .word)) → s .second ≡ 0
+  pub turn : T (not (takesAmount (s .word))) → s .turn ≡ pos 0

@@ -1,7 +1,7 @@
 -- The words in document 01's order.
 use Prim.Native.Nat.{ℕ}
-use Rattle.text.specs.declared.Word.{Word}
-use Rattle.text.specs.declared.Word.the-variants.{In, Const, Neg, Rot, Add, Mul, Out, Enc, Rs, Ms, Us, NoWord}
+use Rattle.model.specs.declared.Word.{Word}
+use Rattle.model.specs.declared.Word.the-variants.{In, Const, Neg, Rot, Add, Mul, Out, Enc, Rs, Ms, Us, NoWord}
 
 -- the seven of a circuit, then the four that only a schedule has
 abbrev pub order : Word → ℕ

@@ -3,9 +3,9 @@ use crate::words;
 use fields::Amount;
 use fields::Field;
 use model::Grammar;
+use model::Word;
 use text::Form;
 use text::Shape;
-use text::Word;
 ghost use mathlib.Core.Path.{_≡_};
 ghost use mathlib.Core.List.{[], _∷_};
 ghost use Rattle.fields.specs.Pieces.{tab, split};
@@ -60,7 +60,7 @@ fn one_field(grammar: Grammar, place: u32, word: Word, a: &[u8]) -> Form
 fn second_field(place: u32, word: Word, first: u64, b: &[u8]) -> Form
     ensures { λ r. ⌜ r ≡ second place word first (now (b .entry)) ⌝ }
 {
-    if words::is_rot(word) {
+    if words::takes_amount(word) {
         let Amount::By(turn) = fields::read_amount(b) else {
             return Form::Unformed { number: 1, place };
         };

@@ -4,9 +4,10 @@ use model::Grammar;
 use model::Header;
 use model::Kind;
 use model::Line;
+use model::Word;
+use text::Context;
 use text::LineRead;
 use text::Shape;
-use text::Word;
 ghost use mathlib.Core.Path.{_≡_};
 ghost use mathlib.Core.List.{List};
 ghost use Prim.Native.Nat.{_≤_};
@@ -15,6 +16,7 @@ ghost use lib.IntN.{pos, negℤ};
 ghost use lib.Signed.{leZ};
 ghost use mathlib.Core.Bool.{_&&_};
 ghost use Rattle.model.specs.Scales.{within};
+ghost use Rattle.model.specs.Words.{levelsFrom, levelsTo};
 ghost use Rattle.model.specs.Files.{inRange};
 ghost use Rattle.text.specs.Lines.{lineFor, shapeLine, judged};
 ghost use Rattle.lines.specs.Kinds.{codes};
@@ -39,8 +41,18 @@ fn turn_in_range(turn: i64) -> bool
     turn <= 32767
 }
 
-fn in_range(header: Header, shape: Shape) -> bool
-    ensures { λ r. ⌜ r ≡ inRange header (shapeLine shape) ⌝ }
+// The levels that a file's lines may name.
+fn level_in_range(grammar: Grammar, header: Header, level: u64) -> bool
+    ensures { λ r. ⌜ r ≡ within (levelsFrom grammar) (levelsTo grammar header) level ⌝ }
+{
+    match grammar {
+        Grammar::Circuit => up_to(header.top as u64, level),
+        Grammar::Schedule => up_to(header.top as u64, level),
+    }
+}
+
+fn in_range(grammar: Grammar, header: Header, shape: Shape) -> bool
+    ensures { λ r. ⌜ r ≡ inRange grammar header (shapeLine shape) ⌝ }
 {
     let word = shape.word;
     match word {
@@ -55,7 +67,7 @@ fn in_range(header: Header, shape: Shape) -> bool
             if !up_to(3600, shape.second) {
                 return false;
             }
-            up_to(header.top as u64, shape.third)
+            level_in_range(grammar, header, shape.third)
         }
         Word::Rs => up_to(60, shape.second),
         Word::Ms => up_to(60, shape.second),
@@ -158,13 +170,14 @@ fn line_of(shape: Shape) -> Line
 }
 
 // A form after lines of these kinds. Its numbers are made smaller only when ranges and operands show that they fit.
-pub fn judge(grammar: Grammar, header: Header, before: &[u8], shape: Shape) -> LineRead
+pub fn judge(context: Context, header: Header, before: &[u8], shape: Shape) -> LineRead
     requires { ⌜ length (now before) ≤ 1792 ⌝ }
     requires tidy { ⌜ Tidy shape ⌝ }
-    ensures { λ r. ⌜ ((lines : List Line) → codes lines ≡ now (before .entry) → r ≡ judged grammar header lines (shapeLine shape)) ⌝ }
+    ensures { λ r. ⌜ ((lines : List Line) → codes lines ≡ now (before .entry) → r ≡ judged context header lines (shapeLine shape)) ⌝ }
 {
     let place = (before.len() as u32) + 2;
-    if !in_range(header, shape) {
+    let grammar = context.grammar;
+    if !in_range(grammar, header, shape) {
         return LineRead::Bad { number: 11, place };
     }
     let word = shape.word;

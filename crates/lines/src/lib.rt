@@ -6,8 +6,8 @@ pub mod judging;
 pub mod kinds;
 pub mod words;
 
-use model::Grammar;
 use model::Header;
+use text::Context;
 use text::Form;
 use text::LineRead;
 ghost use mathlib.Core.Path.{_≡_};
@@ -20,14 +20,15 @@ ghost use Rattle.text.specs.Files.{beginsKept};
 ghost use Rattle.lines.specs.Kinds.{codes};
 
 // One line, after lines of these kinds.
-pub fn read_line(grammar: Grammar, header: Header, kinds: &[u8], bytes: &[u8]) -> LineRead
+pub fn read_line(context: Context, header: Header, kinds: &[u8], bytes: &[u8]) -> LineRead
     requires { ⌜ length (now kinds) ≤ 1792 ⌝ }
-    ensures { λ r. ⌜ ((before : List Line) → codes before ≡ now (kinds .entry) → r ≡ readLine grammar header before (now (bytes .entry))) ⌝ }
+    ensures { λ r. ⌜ ((before : List Line) → codes before ≡ now (kinds .entry) → r ≡ readLine context header before (now (bytes .entry))) ⌝ }
 {
     let place = (kinds.len() as u32) + 2;
+    let grammar = context.grammar;
     let read = forms::form(grammar, place, bytes);
     match read {
-        Form::Shaped(shape) => judging::judge(grammar, header, kinds, shape),
+        Form::Shaped(shape) => judging::judge(context, header, kinds, shape),
         Form::Unformed { number, place } => LineRead::Bad { number, place },
     }
 }

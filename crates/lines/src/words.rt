@@ -1,11 +1,10 @@
 // The words of the lines: which one a field is, and what each asks of the line's form.
 use model::Grammar;
-use text::Word;
+use model::Word;
 ghost use mathlib.Core.Path.{_≡_};
 ghost use mathlib.Core.Bool.{_&&_};
 ghost use lib.Dec.{eqb};
-ghost use Rattle.text.specs.Words.{arity, isKeptWord, isWordOf, wordNamed};
-ghost use Rattle.text.specs.Lines.{isRot};
+ghost use Rattle.text.specs.Words.{arity, takesAmount, isKeptWord, isWordOf, wordNamed};
 ghost use Rattle.lines.specs.Words.{order};
 
 pub fn word_of(f: &[u8]) -> Word
@@ -102,8 +101,8 @@ pub fn is_word_of(grammar: Grammar, word: Word) -> bool
     }
 }
 
-pub fn is_rot(word: Word) -> bool
-    ensures { λ r. ⌜ r ≡ isRot word ⌝ }
+pub fn takes_amount(word: Word) -> bool
+    ensures { λ r. ⌜ r ≡ takesAmount word ⌝ }
 {
     order(word) == 3
 }

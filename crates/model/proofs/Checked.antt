@@ -268,7 +268,7 @@ pub keeps-agrees : (h : Header) (s : List Line) → T (wellFormed Schedule h s) 
     → (found : List Found) × (run (checkMachine h) s ≡ finished found) × Matched (Agrees h (k .scale) (k .level)) s found
 keeps-agrees h s t k = finishes (run (checkMachine h) s) (formed-run (checkMachine h) NoReason (Agrees h (k .scale) (k .level)) Schedule h s (well-lines Schedule h s t) at-line)
   where
-    at-line : (before : List Line) (x : Line) (rest : List Line) → before ++ (x ∷ rest) ≡ s → T (isWord Schedule x) → T (inRange h x)
+    at-line : (before : List Line) (x : Line) (rest : List Line) → before ++ (x ∷ rest) ≡ s → T (isWord Schedule x) → T (inRange Schedule h x)
         → Duty (checkMachine h) NoReason (Agrees h (k .scale) (k .level)) Schedule (length before) x
     at-line before x rest e w q =
         let p = line-place before x rest e in

@@ -25,25 +25,25 @@ use Rattle.model.proofs.Outcomes.{snoc-cases, Outcome, RunOutcome, outc
 -- ---- one line
 pub record LineFacts (g : Grammar) (h : Header) (before : List Line) (x : Line) : Type 0 where
   pub word : T (isWord g x)
-  pub range : T (inRange h x)
+  pub range : T (inRange g h x)
   pub usable : T (everyUsable before (operands x))
   pub kinds : T (kindsFit g before x)
 
 pub line-facts : (g : Grammar) (h : Header) (before : List Line) (x : Line) → T (lineFormed g h before x) → LineFacts g h before x
 line-facts g h before x t =
-    let two = and-second (isWord g x) (inRange h x && (everyUsable before (operands x) && kindsFit g before x)) t in
-    let three = and-second (inRange h x) (everyUsable before (operands x) && kindsFit g before x) two in
+    let two = and-second (isWord g x) (inRange g h x && (everyUsable before (operands x) && kindsFit g before x)) t in
+    let three = and-second (inRange g h x) (everyUsable before (operands x) && kindsFit g before x) two in
     record {
-      word = and-first (isWord g x) (inRange h x && (everyUsable before (operands x) && kindsFit g before x)) t;
-      range = and-first (inRange h x) (everyUsable before (operands x) && kindsFit g before x) two;
+      word = and-first (isWord g x) (inRange g h x && (everyUsable before (operands x) && kindsFit g before x)) t;
+      range = and-first (inRange g h x) (everyUsable before (operands x) && kindsFit g before x) two;
       usable = and-first (everyUsable before (operands x)) (kindsFit g before x) three;
       kinds = and-second (everyUsable before (operands x)) (kindsFit g before x) three;
     }
 
 pub line-passes : (g : Grammar) (h : Header) (before : List Line) (x : Line) → LineFacts g h before x → T (lineFormed g h before x)
 line-passes g h before x f =
-    and-both (isWord g x) (inRange h x && (everyUsable before (operands x) && kindsFit g before x)) (f .word)
-    (and-both (inRange h x) (everyUsable before (operands x) && kindsFit g before x) (f .range)
+    and-both (isWord g x) (inRange g h x && (everyUsable before (operands x) && kindsFit g before x)) (f .word)
+    (and-both (inRange g h x) (everyUsable before (operands x) && kindsFit g before x) (f .range)
     (and-both (everyUsable before (operands x)) (kindsFit g before x) (f .usable) (f .kinds)))
 
 -- a value that can be used is that of an earlier line
@@ -193,7 +193,7 @@ module _ {X E : Type 0} (M : Machine X E) (A : E → Type 0) (Fits : ℕ → Kin
 
   -- a machine that does its duty at each line
   pub formed-run : (g : Grammar) (h : Header) (lines : List Line) → T (linesFormed g h [] lines)
-      → ((before : List Line) (x : Line) (rest : List Line) → before ++ (x ∷ rest) ≡ lines → T (isWord g x) → T (inRange h x) → Duty g (length before) x)
+      → ((before : List Line) (x : Line) (rest : List Line) → before ++ (x ∷ rest) ≡ lines → T (isWord g x) → T (inRange g h x) → Duty g (length before) x)
       → RunOutcome A (Matched Fits lines) (run M lines)
   formed-run g h lines t duty = run-outcome M A lines (Matched Fits)
       (λ ins before held x rest e m.

@@ -11,7 +11,8 @@ use Rattle.model.specs.declared.Header.{Header}
 use Rattle.model.specs.declared.Line.{Line}
 use Rattle.model.specs.Scales.{reserve, withTop}
 use Rattle.model.specs.Machine.{Step, goes, finished, run}
-use Rattle.model.specs.Plan.{Placement, Best, smaller, atWaterline, placeInput, placeAt, placeTimesConstant, placeConstantTimes, placeProduct, productAt, placed, onCiphertext, onReserves, bestMachine}
+use Rattle.model.specs.declared.Placement.{Placement}
+use Rattle.model.specs.Plan.{Best, smaller, atWaterline, placeInput, placeAt, placeTimesConstant, placeConstantTimes, placeProduct, productAt, placed, onCiphertext, onReserves, bestMachine}
 use Rattle.model.proofs.Lists.{nil3}
 use Rattle.model.proofs.Kept.{Follows, Kept, run-kept, Finished, finish, idle}
 use Rattle.model.proofs.Floor.{floor-top}

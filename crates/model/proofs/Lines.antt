@@ -18,7 +18,8 @@ use Rattle.model.specs.declared.Kind.{Kind}
 use Rattle.model.specs.declared.Kind.the-variants.{Ciphertext, Constant, Nothing}
 use Rattle.model.specs.Files.{kindOf, kindAt, isUsable, isPair, inRange, lineFormed}
 use Rattle.model.specs.Machine.{Step, goes, andThen, operand, step}
-use Rattle.model.specs.Plan.{Draft, Placement, Best, atWaterline, supply, operandTo, planOne, planTwo, placeInput, placeAt}
+use Rattle.model.specs.declared.Placement.{Placement}
+use Rattle.model.specs.Plan.{Draft, Best, atWaterline, supply, operandTo, planOne, planTwo, placeInput, placeAt}
 use Rattle.model.specs.Services.{kept, fateOf, renamed, erase, origins}
 use Rattle.model.specs.Refused as Refused
 use Rattle.model.specs.Refused.{Found, bounded, onPair, checkMachine}
@@ -171,8 +172,8 @@ module _ (h : Header) (H : HeaderFacts h) where
         (λ n. ap (λ (s : Step Found ℕ). andThen s (Refused.onCiphertext (λ s l. bounded h Found.ciphertext (pos s) (pos l)))) (reads h (x .stands)) ∙ bounded-goes h Found.ciphertext _ _ (valid-bounds h H (x .valid)))
         (on-ciphertext-formed true (kindAt lines (getD numbers a 0)) tt (kind-at h (x .stands))) (ap Out (names (x .stands))))
 
-    pub const-grown : (k : ℕ) → T (inRange h (Const k)) → Grown h 7 lines (lines ++ (Const k ∷ [])) (done ++ (Const k ∷ [])) (numbers ++ (length lines ∷ [])) (length lines) Found.bare Constant (length done)
-    const-grown k r = at-most h 7 (omega arith) (emit-kept h (Const k) (Const k) Found.bare S refl (λ n. refl) (and-both (inRange h (Const k)) true r tt) refl)
+    pub const-grown : (k : ℕ) → T (inRange Schedule h (Const k)) → Grown h 7 lines (lines ++ (Const k ∷ [])) (done ++ (Const k ∷ [])) (numbers ++ (length lines ∷ [])) (length lines) Found.bare Constant (length done)
+    const-grown k r = at-most h 7 (omega arith) (emit-kept h (Const k) (Const k) Found.bare S refl (λ n. refl) (and-both (inRange Schedule h (Const k)) true r tt) refl)
 
     pub in-grown : Valid h H (atWaterline h (h .top)) (h .top) → Grown h 7 lines (lines ++ (In ∷ [])) (done ++ (In ∷ [])) (numbers ++ (length lines ∷ [])) (length lines) (foundFor h H (Best.ciphertext (placeInput h))) Ciphertext (length done)
     in-grown v = at-most h 7 (omega arith) (emit-kept h In In (foundFor h H (Best.ciphertext (placeInput h))) S refl

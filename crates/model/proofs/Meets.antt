@@ -9,7 +9,8 @@ use Rattle.ints.specs.Parts.{positive, negative}
 use Rattle.ints.proofs.Linear.{signed, parts+, parts-, is-positive, positive-sub, ≤-read, ≡-read}
 use Rattle.model.specs.declared.Header.{Header}
 use Rattle.model.specs.Scales.{floor}
-use Rattle.model.specs.Plan.{Placement, Best, lowestLevel, smaller, atWaterline, placeAt, placeTimesConstant, placeConstantTimes, placeProduct}
+use Rattle.model.specs.declared.Placement.{Placement}
+use Rattle.model.specs.Plan.{Best, lowestLevel, smaller, atWaterline, placeAt, placeTimesConstant, placeConstantTimes, placeProduct}
 use Rattle.model.proofs.Tests.{HeaderFacts}
 use Rattle.model.proofs.Levels.{fits, least}
 use Rattle.model.proofs.Tests.{by-test}

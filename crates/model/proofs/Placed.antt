@@ -9,7 +9,8 @@ use Rattle.ints.proofs.Linear.{signed, lt-true, ≤-read}
 use Rattle.model.specs.declared.Header.{Header}
 use Rattle.model.specs.Scales.{floor}
 use Rattle.model.specs.Machine.{Step, goes, stops}
-use Rattle.model.specs.Plan.{Placement, Best, placed}
+use Rattle.model.specs.declared.Placement.{Placement}
+use Rattle.model.specs.Plan.{Best, placed}
 use Rattle.model.proofs.Tests.{by-test}
 
 module _ (h : Header) (p : Placement) where

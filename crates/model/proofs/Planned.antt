@@ -15,12 +15,13 @@ use Rattle.ints.proofs.Linear.{parts-, ≤-read}
 use Rattle.model.specs.declared.Header.{Header}
 use Rattle.model.specs.declared.Line.{Line}
 use Rattle.model.specs.declared.Line.the-variants.{In, Const, Neg, Rot, Add, Mul, Out, Enc, Rs, Ms, Us, Free}
-use Rattle.model.specs.declared.Grammar.the-variants.{Circuit}
+use Rattle.model.specs.declared.Grammar.the-variants.{Circuit, Schedule}
 use Rattle.model.specs.Scales.{floor}
 use Rattle.model.specs.Files.{kindOf, kindAt, isUsable, inRange, everyUsable, lineFormed, linesFormed}
 use Rattle.model.specs.Machine.{Step, goes, stops, Run, finished, stopped, andThen, orAbsent, operand, step, countIn, runFrom, run}
 use Rattle.model.specs.Rules.{Bounds}
-use Rattle.model.specs.Plan.{Draft, Placement, Best, atWaterline, smaller, placeInput, placeAt, placeTimesConstant, placeConstantTimes, placeProduct, placed, onReserves, bestMachine, placementOf, planLine, planFrom, planLines}
+use Rattle.model.specs.declared.Placement.{Placement}
+use Rattle.model.specs.Plan.{Draft, Best, atWaterline, smaller, placeInput, placeAt, placeTimesConstant, placeConstantTimes, placeProduct, placed, onReserves, bestMachine, placementOf, planLine, planFrom, planLines}
 use Rattle.model.specs.Refused.{Found, sum, product, bounded}
 use Rattle.model.proofs.Tests.{and-first, and-second, cond-true, HeaderFacts}
 use Rattle.model.proofs.Lists.{length-snoc, found-after, found-last, found-snoc, found-is}
@@ -104,7 +105,7 @@ module _ (h : Header) (H : HeaderFacts h) where
         record {
           valid = meets-one h H q (r .valid) .own;
           kind = λ t. refl;
-          grown = one-grown h H full S (λ i. Rot i t) a q (λ i. refl) (λ g i. refl) (λ i. refl) (λ n i found. refl) (λ ls i k. on-ciphertext-formed (inRange h (Rot a t)) (kindAt ls i) (L .range) k) (prefix a (Best.ciphertext q) (e ∙ ap some (sym w))) r;
+          grown = one-grown h H full S (λ i. Rot i t) a q (λ i. refl) (λ g i. refl) (λ i. refl) (λ n i found. refl) (λ ls i k. on-ciphertext-formed (inRange Schedule h (Rot a t)) (kindAt ls i) (L .range) k) (prefix a (Best.ciphertext q) (e ∙ ap some (sym w))) r;
         })
 
     -- ---- `out`

@@ -12,7 +12,8 @@ use lib.Signed.{_≤ℤ_, _<ℤ_, leZ, ltZ}
 use Rattle.ints.specs.Parts.{positive, negative}
 use Rattle.ints.proofs.Linear.{signed, parts+, parts-, le-true, le-false, ≡-goal}
 use Rattle.model.specs.declared.Header.{Header}
-use Rattle.model.specs.Plan.{Placement, lowestLevel, smaller, atWaterline, placeUnequal, placeSame, placeBelow, greater, placeProduct, productAt}
+use Rattle.model.specs.declared.Placement.{Placement}
+use Rattle.model.specs.Plan.{lowestLevel, smaller, atWaterline, placeUnequal, placeSame, placeBelow, greater, placeProduct, productAt}
 use Rattle.model.proofs.Tests.{by-test, below-or-not}
 use Rattle.model.proofs.Levels.{fits, short}
 

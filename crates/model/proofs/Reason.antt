@@ -18,7 +18,8 @@ use Rattle.model.specs.declared.Kind.the-variants.{Ciphertext, Constant}
 use Rattle.model.specs.Scales.{floor}
 use Rattle.model.specs.Files.{isWord, isCiphertext, isConstant, isPair, wellFormed}
 use Rattle.model.specs.Machine.{Step, goes, stops, finished, stopped, Machine, run}
-use Rattle.model.specs.Plan.{Placement, smaller, placeInput, placeAt, placeTimesConstant, placeConstantTimes, placeProduct, Best, placed, onReserves, bestMachine}
+use Rattle.model.specs.declared.Placement.{Placement}
+use Rattle.model.specs.Plan.{smaller, placeInput, placeAt, placeTimesConstant, placeConstantTimes, placeProduct, Best, placed, onReserves, bestMachine}
 use Rattle.model.specs.Plan
 use Rattle.model.specs.Refused.{Found, encoded, ciphertext, bounded, onCiphertext, onPair, sum, product, checkMachine}
 use Rattle.model.proofs.Tests.{Within}

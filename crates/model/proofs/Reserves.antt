@@ -17,7 +17,8 @@ use Rattle.model.specs.Scales.{reserve, floor}
 use Rattle.model.specs.Machine.{Step, goes, finished, run}
 use Rattle.model.specs.Rules.{Bounds}
 use Rattle.model.specs.Plan as Plan
-use Rattle.model.specs.Plan.{Placement, Best, smaller, atWaterline, placeInput, placeAt, placeTimesConstant, placeConstantTimes, placeProduct, productAt, placed, onReserves, bestMachine}
+use Rattle.model.specs.declared.Placement.{Placement}
+use Rattle.model.specs.Plan.{Best, smaller, atWaterline, placeInput, placeAt, placeTimesConstant, placeConstantTimes, placeProduct, productAt, placed, onReserves, bestMachine}
 use Rattle.model.specs.Services.{erase, origins}
 use Rattle.model.specs.Refused as Refused
 use Rattle.model.specs.Refused.{Found, bounded, onPair, sum, product, checkMachine}

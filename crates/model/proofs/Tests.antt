@@ -9,7 +9,10 @@ use lib.Dec.{T, leb, eqb, leb→le, le→leb, eqb-refl}
 use Rattle.model.specs.declared.Header.{Header}
 use Rattle.model.specs.declared.Kind.{Kind}
 use Rattle.model.specs.declared.Kind.the-variants.{Ciphertext, Constant, Encoded, Nothing}
+use Rattle.model.specs.declared.Grammar.{Grammar}
+use Rattle.model.specs.declared.Grammar.the-variants.{Circuit, Schedule}
 use Rattle.model.specs.Scales.{within, headerInRange}
+use Rattle.model.specs.Words.{levelsTo}
 use Rattle.model.specs.Files.{isCiphertext, isConstant, isEncoded, isUsable}
 
 -- ---- and, or
@@ -117,3 +120,8 @@ is-encoded Nothing t = absurd t
 
 pub not-nothing : (k : Kind) → T (isUsable k) → k ≡ Nothing → ⊥
 not-nothing k t e = subst (λ (j : Kind). T (isUsable j)) e t
+
+-- ---- the levels that a file's lines name
+pub level-most : (g : Grammar) (h : Header) → levelsTo g h ≤ h .top
+level-most Circuit h = omega arith
+level-most Schedule h = omega arith

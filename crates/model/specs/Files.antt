@@ -1,13 +1,11 @@
--- Document 01, "The two files": words, operands, kinds, ranges, and which lists of lines are circuits and schedules.
--- No text is mentioned: a file is its header and the list of its lines.
+-- Document 01, "The two files": operands, kinds, ranges, and which lists of lines are circuits and schedules. The words stand in Words.
+-- A file is its header and the list of its lines; its text is another layer's.
 use Prim.Native.Nat.{ℕ, _+_}
 use mathlib.Core.Bool.{Bool, true, false, _&&_, _||_}
 use mathlib.Core.List.{List, [], _∷_, _++_, map}
 use mathlib.Core.Path.{_≡_}
 use lib.Dec.{T, leb}
 use lib.ListN.{length, getD, take}
-use lib.IntN.{pos, negℤ}
-use lib.Signed.{leZ}
 use Rattle.model.specs.declared.Header.{Header}
 use Rattle.model.specs.declared.Line.{Line}
 use Rattle.model.specs.declared.Line.the-variants.{In, Const, Neg, Rot, Add, Mul, Out, Enc, Rs, Ms, Us, Free}
@@ -17,7 +15,10 @@ use Rattle.model.specs.declared.Grammar.{Grammar}
 use Rattle.model.specs.declared.Grammar.the-variants.{Circuit, Schedule}
 use Rattle.model.specs.declared.Kind.{Kind}
 use Rattle.model.specs.declared.Kind.the-variants.{Ciphertext, Constant, Encoded, Nothing}
-use Rattle.model.specs.Scales.{within, headerInRange}
+use Rattle.model.specs.declared.Word as W
+use Rattle.model.specs.declared.Word.{Word}
+use Rattle.model.specs.Scales.{headerInRange}
+use Rattle.model.specs.Words.{Given, natural, signed, entry, hasWord, fieldsInRange, operandsAmong}
 
 -- "A value number counts the lines after the header from 0. A place counts all text lines from 1, so value n stands at place n + 2."
 abbrev pub placeOf : ℕ → ℕ
@@ -28,67 +29,50 @@ abbrev pub limit : Grammar → ℕ
 limit Circuit = 256
 limit Schedule = 1792
 
--- "Circuit: … `in` … `const K` … `neg A`. `rot A T` … `add A B`. `mul A B`. `out A`."
-abbrev pub isCircuitWord : Line → Bool
-isCircuitWord In = true
-isCircuitWord (Const k) = true
-isCircuitWord (Neg a) = true
-isCircuitWord (Rot a t) = true
-isCircuitWord (Add a b) = true
-isCircuitWord (Mul a b) = true
-isCircuitWord (Out a) = true
-isCircuitWord (Enc a s e) = false
-isCircuitWord (Rs a c) = false
-isCircuitWord (Ms a c) = false
-isCircuitWord (Us a b) = false
-isCircuitWord Free = false
+-- A line's word, and what stands in the fields after it.
+abbrev pub wordOf : Line → Word
+wordOf In = W.the-variants.In
+wordOf (Const k) = W.the-variants.Const
+wordOf (Neg a) = W.the-variants.Neg
+wordOf (Rot a t) = W.the-variants.Rot
+wordOf (Add a b) = W.the-variants.Add
+wordOf (Mul a b) = W.the-variants.Mul
+wordOf (Out a) = W.the-variants.Out
+wordOf (Enc a s e) = W.the-variants.Enc
+wordOf (Rs a c) = W.the-variants.Rs
+wordOf (Ms a c) = W.the-variants.Ms
+wordOf (Us a b) = W.the-variants.Us
+wordOf Free = W.the-variants.NoWord
 
--- "Schedule: … those above and `enc A S E` … `rs A C` … `ms A C` … `us A B`"
+abbrev pub given : Line → List Given
+given In = []
+given (Const k) = natural k ∷ []
+given (Neg a) = natural a ∷ []
+given (Rot a t) = natural a ∷ signed t ∷ []
+given (Add a b) = natural a ∷ natural b ∷ []
+given (Mul a b) = natural a ∷ natural b ∷ []
+given (Out a) = natural a ∷ []
+given (Enc a s e) = natural a ∷ natural s ∷ natural e ∷ []
+given (Rs a c) = natural a ∷ natural c ∷ []
+given (Ms a c) = natural a ∷ natural c ∷ []
+given (Us a b) = natural a ∷ natural b ∷ []
+given Free = []
+
+-- "Circuit: header … then … lines", "Schedule: … those above and …": the word is one of the file's.
 abbrev pub isWord : Grammar → Line → Bool
-isWord Circuit x = isCircuitWord x
-isWord Schedule In = true
-isWord Schedule (Const k) = true
-isWord Schedule (Neg a) = true
-isWord Schedule (Rot a t) = true
-isWord Schedule (Add a b) = true
-isWord Schedule (Mul a b) = true
-isWord Schedule (Out a) = true
-isWord Schedule (Enc a s e) = true
-isWord Schedule (Rs a c) = true
-isWord Schedule (Ms a c) = true
-isWord Schedule (Us a b) = true
-isWord Schedule Free = false
+isWord g x = hasWord g (wordOf x)
+
+-- "the lines with circuit words"
+abbrev pub isCircuitWord : Line → Bool
+isCircuitWord x = isWord Circuit x
 
 -- The value numbers that a line names, in their order.
 abbrev pub operands : Line → List ℕ
-operands In = []
-operands (Const k) = []
-operands (Neg a) = a ∷ []
-operands (Rot a t) = a ∷ []
-operands (Add a b) = a ∷ b ∷ []
-operands (Mul a b) = a ∷ b ∷ []
-operands (Out a) = a ∷ []
-operands (Enc a s e) = a ∷ []
-operands (Rs a c) = a ∷ []
-operands (Ms a c) = a ∷ []
-operands (Us a b) = a ∷ []
-operands Free = []
+operands x = operandsAmong (entry (wordOf x) .fields) (given x)
 
--- "`const K`: constant number K, 0 to 65535"; "T from −32767 to 32767"; "scale S, 1 to 3600, level E, 1 to L";
--- "C rescales, 1 to 60"; "C modswitches, 1 to 60"; "raised by B bits, 1 to 3600".
-abbrev pub inRange : Header → Line → Bool
-inRange h In = true
-inRange h (Const k) = leb k 65535
-inRange h (Neg a) = true
-inRange h (Rot a t) = leZ (negℤ (pos 32767)) t && leZ t (pos 32767)
-inRange h (Add a b) = true
-inRange h (Mul a b) = true
-inRange h (Out a) = true
-inRange h (Enc a s e) = within 1 3600 s && within 1 (h .top) e
-inRange h (Rs a c) = within 1 60 c
-inRange h (Ms a c) = within 1 60 c
-inRange h (Us a b) = within 1 3600 b
-inRange h Free = true
+-- Each number of a line but its operands is in its range.
+abbrev pub inRange : Grammar → Header → Line → Bool
+inRange g h x = fieldsInRange g h (entry (wordOf x) .fields) (given x)
 
 -- What a line can be used as: its word alone decides.
 abbrev pub kindOf : Line → Kind
@@ -166,7 +150,7 @@ kindsFit g before Free = true
 -- One line, after the lines before it: its word, its ranges, its operands, their kinds.
 abbrev pub lineFormed : Grammar → Header → List Line → Line → Bool
 lineFormed g h before x =
-    isWord g x && (inRange h x && (everyUsable before (operands x) && kindsFit g before x))
+    isWord g x && (inRange g h x && (everyUsable before (operands x) && kindsFit g before x))
 
 -- The lines of a file of that grammar, after the lines before them. The limit on their number is a condition of its own.
 abbrev pub linesFormed : Grammar → Header → List Line → List Line → Bool

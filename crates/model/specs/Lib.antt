@@ -1,6 +1,7 @@
--- Document 01 as definitions, in its order: a file for each section that defines something, with the section on the rules in three (Machine,
--- Rules, Machines), and the demands' own terms in Demands.
+-- Document 01 as definitions, in its order: a file for each section that defines something, with the section on the files in two (Words,
+-- Files) and the section on the rules in three (Machine, Rules, Machines), and the demands' own terms in Demands.
 pub mod Scales
+pub mod Words
 pub mod Files
 pub mod Machine
 pub mod Rules

@@ -9,6 +9,7 @@ use lib.Signed.{leZ, ltZ}
 use Rattle.ints.specs.Parts.{positive}
 use Rattle.model.specs.declared.Header.{Header}
 use Rattle.model.specs.declared.Line.{Line}
+use Rattle.model.specs.declared.Placement.{Placement}
 use Rattle.model.specs.declared.Line.the-variants.{In, Const, Neg, Rot, Add, Mul, Out, Enc, Rs, Ms, Us, Free}
 use Rattle.model.specs.Scales.{modulus, reserve, floor}
 use Rattle.model.specs.Machine.{Step, goes, stops, Machine}
@@ -16,14 +17,6 @@ use Rattle.model.specs.Machine.{Step, goes, stops, Machine}
 -- "m(r) is the smallest whole level with F·m ≥ r + W": r + W over F, rounded up.
 abbrev pub lowestLevel : Header → ℤ → ℕ
 lowestLevel h r = (positive (r +ℤ pos (h .waterline)) + (h .factor - 1)) / h .factor
-
--- How a ciphertext line is done: the level, the reserve that it then has, and the reserves to which its operands come at that level.
--- The last two mean nothing for `in`, which has no operand, and for `out`, which takes its own as it is.
-pub record Placement : Type 0 where
-  pub level : ℕ
-  pub reserve : ℤ
-  pub first : ℤ
-  pub second : ℤ
 
 abbrev pub smaller : ℤ → ℤ → ℤ
 smaller r r′ = cond (leZ r r′) r r′

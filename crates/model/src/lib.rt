@@ -7,6 +7,22 @@ pub struct Header {
     pub top: u32,
 }
 
+// The words of document 01's lines, and no word of them.
+pub enum Word {
+    In,
+    Const,
+    Neg,
+    Rot,
+    Add,
+    Mul,
+    Out,
+    Enc,
+    Rs,
+    Ms,
+    Us,
+    NoWord,
+}
+
 // A line by its word; operands are value numbers. Free is no line: a record that holds none.
 pub enum Line {
     In,
@@ -47,6 +63,15 @@ pub enum Kind {
     Constant,
     Encoded,
     Nothing,
+}
+
+// How a ciphertext line is done: the level, the reserve that it then has, and the reserves to which its operands come at that level.
+// The last two mean nothing for `in`, which has no operand, and for `out`, which takes its own as it is.
+pub struct Placement {
+    pub level: u32,
+    pub reserve: i32,
+    pub first: i32,
+    pub second: i32,
 }
 
 // A service's answer on tables that were read: done, a least top level, or a refusal.

@@ -94,9 +94,9 @@ module _ (c : Context) where
     one-piece :
         (p : Bytes) (ps : List Bytes) (done : List Line) → 1 ≤ length ps →
         readLines c h (p ∷ ps) done
-        ≡ onward (cond (tooMany c done p) (Bad 3 (placeOf (length done))) (readLine (c .grammar) h done p)) (λ x. readLines c h ps (done ++ (x ∷ [])))
+        ≡ onward (cond (tooMany c done p) (Bad 3 (placeOf (length done))) (readLine c h done p)) (λ x. readLines c h ps (done ++ (x ∷ [])))
     one-piece p ps done s =
-        FileLaws.closed c h p ps done s ∙ one-of (tooMany c done p) 3 (placeOf (length done)) (readLine (c .grammar) h done p) (λ x. readLines c h ps (done ++ (x ∷ [])))
+        FileLaws.closed c h p ps done s ∙ one-of (tooMany c done p) 3 (placeOf (length done)) (readLine c h done p) (λ x. readLines c h ps (done ++ (x ∷ [])))
 
     closed :
         (text : Bytes) (done : List Line) → before lineFeed text < length text →

@@ -24,5 +24,5 @@ line-number c h done text {n} {p} e =
     let piece = take (before lineFeed text) text in
     cond-cases (λ r. r ≡ Bad n p → n ≡ 0 → ⊥) (tooMany c done piece) _ _ (λ t. told (λ z. omega arith))
     (λ t. cond-cases (λ r. r ≡ Bad n p → n ≡ 0 → ⊥) (ltb (before lineFeed text) (length text)) _ _
-    (λ u q. Refusals.line-number (c .grammar) h done piece q) (λ u. told (λ z. omega arith)))
+    (λ u q. Refusals.line-number c h done piece q) (λ u. told (λ z. omega arith)))
     e

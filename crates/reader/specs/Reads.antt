@@ -23,7 +23,7 @@ unfoldable pub nextLine : Context → Header → List Line → Bytes → LineRea
 nextLine c h done text =
     let piece = take (before lineFeed text) text in
     let place = placeOf (length done) in
-    let closed = readLine (c .grammar) h done piece in
+    let closed = readLine c h done piece in
     cond (tooMany c done piece) (Bad 3 place) (cond (ltb (before lineFeed text) (length text)) closed (Bad 1 place))
 
 -- the lines of a text after its header line

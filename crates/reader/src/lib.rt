@@ -107,8 +107,7 @@ fn next_line(
             place: place,
         };
     }
-    let grammar = context.grammar;
-    lines::read_line(grammar, header, kinds, piece)
+    lines::read_line(context, header, kinds, piece)
 }
 
 // The lines after the header. The one loop that owns the table fills it in place; beside it stand the lines' kinds, which can be lent as a slice.

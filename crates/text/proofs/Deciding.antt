@@ -48,7 +48,7 @@ module _ (h : Header) where
   rest r done = readLines circuitContext h (split lineFeed r) done
 
   abbrev after : Bytes → List Bytes → List Line → Reading
-  after p ps done = onward (readLine Circuit h done p) (λ x. readLines circuitContext h ps (done ++ (x ∷ [])))
+  after p ps done = onward (readLine circuitContext h done p) (λ x. readLines circuitContext h ps (done ++ (x ∷ [])))
 
   -- ---- the next line, as its line feed says
   next : (p : Bytes) (ps : List Bytes) (done : List Line) → 1 ≤ length ps → length done < 256 → readLines circuitContext h (p ∷ ps) done ≡ after p ps done
@@ -84,7 +84,7 @@ module _ (h : Header) where
 
   -- ---- one line: if what follows a good line is decided, so is what begins with it
   abbrev Onward : Bytes → ℕ → List Line → Type 0
-  Onward r m done = (x : Line) → readLine Circuit h done (take (before lineFeed r) r) ≡ Line·Read.Good x → length (take (before lineFeed r) r) ≡ before lineFeed r
+  Onward r m done = (x : Line) → readLine circuitContext h done (take (before lineFeed r) r) ≡ Line·Read.Good x → length (take (before lineFeed r) r) ≡ before lineFeed r
       → rest (drop (suc (before lineFeed r)) r) (done ++ (x ∷ [])) ≡ rest (take (m - suc (before lineFeed r)) (drop (suc (before lineFeed r)) r)) (done ++ (x ∷ []))
 
   step : (r : Bytes) (m : ℕ) (done : List Line) → 28 ≤ m → length done < 256 → Onward r m done → rest r done ≡ rest (take m r) done
@@ -98,7 +98,7 @@ module _ (h : Header) where
               let size = length-take-le (before lineFeed r) r (omega arith) in
               ap (λ (ps : List Bytes). readLines circuitContext h ps done) (split-cut lineFeed r (omega arith))
               ∙ next p (split lineFeed left) done (split-some lineFeed left) less
-              ∙ same p (split lineFeed left) (split lineFeed (take (m - suc (before lineFeed r)) left)) (readLine Circuit h done p) (λ x e. more x e size) refl
+              ∙ same p (split lineFeed left) (split lineFeed (take (m - suc (before lineFeed r)) left)) (readLine circuitContext h done p) (λ x e. more x e size) refl
               ∙ sym (next p (split lineFeed (take (m - suc (before lineFeed r)) left)) done (split-some lineFeed (take (m - suc (before lineFeed r)) left)) less)
               ∙ ap (λ (ps : List Bytes). readLines circuitContext h ps done) (sym (take-cut lineFeed r m c (omega arith)))
           | no c ↦
@@ -109,8 +109,8 @@ module _ (h : Header) where
       ]
     where
       same : (p : Bytes) (ps qs : List Bytes) (l : LineRead)
-          → ((x : Line) → readLine Circuit h done p ≡ Line·Read.Good x → readLines circuitContext h ps (done ++ (x ∷ [])) ≡ readLines circuitContext h qs (done ++ (x ∷ [])))
-          → readLine Circuit h done p ≡ l → after p ps done ≡ after p qs done
+          → ((x : Line) → readLine circuitContext h done p ≡ Line·Read.Good x → readLines circuitContext h ps (done ++ (x ∷ [])) ≡ readLines circuitContext h qs (done ++ (x ∷ [])))
+          → readLine circuitContext h done p ≡ l → after p ps done ≡ after p qs done
       same p ps qs (Line·Read.Bad n place) k e =
           ap (λ (l : LineRead). onward l (λ x. readLines circuitContext h ps (done ++ (x ∷ [])))) e ∙ sym (ap (λ (l : LineRead). onward l (λ x. readLines circuitContext h qs (done ++ (x ∷ [])))) e)
       same p ps qs (Line·Read.Good x) k e =
@@ -131,7 +131,7 @@ module _ (h : Header) where
           over s done some more = full-pieces (split lineFeed s) done (let e = ap length (join-split lineFeed s) in omega arith) more
   lines-decided (suc k) r m done count room =
       step r m done (omega arith) (omega arith) (λ x e size.
-      let b = read-written Circuit h done (take (before lineFeed r) r) e in
+      let b = read-written circuitContext h done (take (before lineFeed r) r) e in
       let most = good-length h done (omega arith) x (b .facts) in
       let whole = ap length (b .written) in
       let longer = length-snoc done x in
@@ -141,7 +141,7 @@ module _ (h : Header) where
   first-decided : (r : Bytes) (m : ℕ) → 3865 ≤ m → rest r [] ≡ rest (take m r) []
   first-decided r m room =
       step r m [] (omega arith) (omega arith) (λ x e size.
-      let b = read-written Circuit h [] (take (before lineFeed r) r) e in
+      let b = read-written circuitContext h [] (take (before lineFeed r) r) e in
       let most = first-length h x (b .facts) in
       let whole = ap length (b .written) in
       lines-decided 255 (drop (suc (before lineFeed r)) r) (m - suc (before lineFeed r)) (x ∷ []) (omega arith) (omega arith))

@@ -12,7 +12,7 @@ use Rattle.fields.proofs.PieceLaws.{Without, join-split, split-some, split-afte
 use Rattle.model.specs.declared.Header.{Header}
 use Rattle.model.specs.declared.Line.{Line}
 use Rattle.model.specs.Scales.{headerInRange}
-use Rattle.model.specs.Files.{File, placeOf, isCircuitWord, isWord, lineFormed, linesFormed, wellFormed}
+use Rattle.model.specs.Files.{File, placeOf, wordOf, isCircuitWord, isWord, lineFormed, linesFormed, wellFormed}
 use Rattle.model.proofs.Tests.{and-first, and-second, and-both, cond-cases, HeaderFacts, header-facts, header-passes}
 use Rattle.model.proofs.Lists.{length-snoc}
 use Rattle.model.proofs.Formed.{line-facts, line-passes, well-header, well-lines}
@@ -25,8 +25,8 @@ use Rattle.text.specs.Lines.{readLine}
 use Rattle.text.specs.Files.{read, refused, keptCount, beginsKept, tooMany, onward, readLines, readHeader, afterHeader, readPieces, readText, fewEnough}
 use Rattle.text.specs.Write.{fieldsOf, headerFieldsOf, fieldsText, linesText, fileText}
 use Rattle.text.proofs.WordLaws.{any-word}
-use Rattle.text.proofs.Shapes.{wordFor, fields-without, header-without}
-use Rattle.text.proofs.LineLaws.{LineBack, begins-kept, word-text, written-read, read-written}
+use Rattle.text.proofs.Shapes.{fields-without, header-without}
+use Rattle.text.proofs.LineLaws.{LineBack, begins-kept, written-read, read-written}
 use Rattle.text.proofs.HeaderLaws.{header-written-read, header-read-written}
 
 -- ---- kept lines are counted line by line
@@ -51,7 +51,7 @@ kept-most (x ∷ xs) = go (isCircuitWord x) (kept-most xs)
 module _ (c : Context) (h : Header) where
   pub closed : (p : Bytes) (ps : List Bytes) (done : List Line) → 1 ≤ length ps
       → readLines c h (p ∷ ps) done
-      ≡ cond (tooMany c done p) (refused 3 (placeOf (length done))) (onward (readLine (c .grammar) h done p) (λ x. readLines c h ps (done ++ (x ∷ []))))
+      ≡ cond (tooMany c done p) (refused 3 (placeOf (length done))) (onward (readLine c h done p) (λ x. readLines c h ps (done ++ (x ∷ []))))
   unfolding readLines
   closed p [] done some = absurd (omega arith)
   closed p (q ∷ ps) done some = refl
@@ -71,7 +71,7 @@ module _ (c : Context) (h : Header) (in-range : HeaderFacts h) where
       → tooMany c done (join tab (fieldsOf x)) ≡ false
   not-too-many done x w few kept =
       ap (λ (b : Bool). cond b (beginsKept (join tab (fieldsOf x)) && leb (c .kept) (keptCount done)) true) (lt-ltb (length done) (c .limit) few)
-      ∙ ap (λ (b : Bool). b && leb (c .kept) (keptCount done)) (begins-kept x (any-word (c .grammar) (wordFor x) (word-text (c .grammar) h done x w)))
+      ∙ ap (λ (b : Bool). b && leb (c .kept) (keptCount done)) (begins-kept x (any-word (c .grammar) (wordOf x) w))
       ∙ go (isCircuitWord x) refl
     where
       go : (b : Bool) → isCircuitWord x ≡ b → b && leb (c .kept) (keptCount done) ≡ false
@@ -96,8 +96,8 @@ module _ (c : Context) (h : Header) (in-range : HeaderFacts h) where
       ap (λ (s : Bytes). readLines c h (split lineFeed s) done) (append-assoc (join tab (fieldsOf x)) (lineFeed ∷ []) (linesText xs))
       ∙ ap (λ (ps : List Bytes). readLines c h ps done) (split-after lineFeed (linesText xs) (line-without x))
       ∙ closed c h (join tab (fieldsOf x)) (split lineFeed (linesText xs)) done (split-some lineFeed (linesText xs))
-      ∙ ap (λ (b : Bool). cond b (refused 3 (placeOf (length done))) (onward (readLine (c .grammar) h done (join tab (fieldsOf x))) (λ y. readLines c h (split lineFeed (linesText xs)) (done ++ (y ∷ []))))) (not-too-many done x (facts .word) (omega arith) (omega arith))
-      ∙ ap (λ (r : LineRead). onward r (λ y. readLines c h (split lineFeed (linesText xs)) (done ++ (y ∷ [])))) (written-read (c .grammar) h done x in-range (omega arith) facts)
+      ∙ ap (λ (b : Bool). cond b (refused 3 (placeOf (length done))) (onward (readLine c h done (join tab (fieldsOf x))) (λ y. readLines c h (split lineFeed (linesText xs)) (done ++ (y ∷ []))))) (not-too-many done x (facts .word) (omega arith) (omega arith))
+      ∙ ap (λ (r : LineRead). onward r (λ y. readLines c h (split lineFeed (linesText xs)) (done ++ (y ∷ [])))) (written-read c h done x facts in-range (omega arith))
       ∙ next ∙ ap (λ (l : List Line). read (record { header = h; lines = l })) all
 
 pub file-written-read : (c : Context) (f : File) → c .limit ≤ 1792 → T (wellFormed (c .grammar) (f .header) (f .lines)) → T (fewEnough c (f .lines)) → readText c (fileText (c .grammar) f) ≡ read f
@@ -171,7 +171,7 @@ module _ (c : Context) (h : Header) where
   kept-next done p x l room kept = let all = kept-append done (x ∷ []) in go (isCircuitWord x) refl
     where
       begins : beginsKept p ≡ isCircuitWord x
-      begins = ap beginsKept (sym (l .written)) ∙ begins-kept x (any-word (c .grammar) (wordFor x) (word-text (c .grammar) h done x (l .facts .word)))
+      begins = ap beginsKept (sym (l .written)) ∙ begins-kept x (any-word (c .grammar) (wordOf x) (l .facts .word))
 
       go : (b : Bool) → isCircuitWord x ≡ b → keptCount (done ++ (x ∷ [])) ≤ c .kept
       go true e =
@@ -188,13 +188,13 @@ module _ (c : Context) (h : Header) where
       cond-cases (λ r. r ≡ read f → LinesBack ((b ∷ bs) ∷ []) done f) (tooMany c done (b ∷ bs)) _ _ (λ t q. refused-read 3 (placeOf (length done)) q) (λ t q. refused-read 1 (placeOf (length done)) q) e
   lines-read-written (p ∷ q ∷ ps) done {f} some few kept e =
       cond-cases (λ r. r ≡ read f → LinesBack (p ∷ q ∷ ps) done f) (tooMany c done p) _ _ (λ t v. refused-read 3 (placeOf (length done)) v)
-      (λ t v. go (has-room done p t) (λ x. lines-read-written (q ∷ ps) (done ++ (x ∷ [])) (omega arith)) (readLine (c .grammar) h done p) refl v) e
+      (λ t v. go (has-room done p t) (λ x. lines-read-written (q ∷ ps) (done ++ (x ∷ [])) (omega arith)) (readLine c h done p) refl v) e
     where
       go : Room done p → ((x : Line) → length (done ++ (x ∷ [])) ≤ c .limit → keptCount (done ++ (x ∷ [])) ≤ c .kept → readLines c h (q ∷ ps) (done ++ (x ∷ [])) ≡ read f → LinesBack (q ∷ ps) (done ++ (x ∷ [])) f)
-          → (r : LineRead) → readLine (c .grammar) h done p ≡ r → onward r (λ x. readLines c h (q ∷ ps) (done ++ (x ∷ []))) ≡ read f → LinesBack (p ∷ q ∷ ps) done f
+          → (r : LineRead) → readLine c h done p ≡ r → onward r (λ x. readLines c h (q ∷ ps) (done ++ (x ∷ []))) ≡ read f → LinesBack (p ∷ q ∷ ps) done f
       go room ih (Line·Read.Bad n place) s v = refused-read n place v
       go room ih (Line·Read.Good x) s v =
-          let l = read-written (c .grammar) h done p s in
+          let l = read-written c h done p s in
           line-back p (q ∷ ps) done x (omega arith) l (ih x (let longer = length-snoc done x in omega (arith, room .few)) (kept-next done p x l room kept) v)
 
 -- ---- a whole file

@@ -20,13 +20,13 @@ use Rattle.model.specs.declared.Grammar.{Grammar}
 use Rattle.model.specs.declared.Grammar.the-variants.{Circuit, Schedule}
 use Rattle.model.specs.Files.{isWord}
 use Rattle.model.proofs.Tests.{cond-cases, and-first, and-second}
-use Rattle.text.specs.declared.Word.{Word}
-use Rattle.text.specs.declared.Word.the-variants.{In, Const, Neg, Rot, Add, Mul, Out, Enc, Rs, Ms, Us, NoWord}
+use Rattle.model.specs.declared.Word.{Word}
+use Rattle.model.specs.declared.Word.the-variants.{In, Const, Neg, Rot, Add, Mul, Out, Enc, Rs, Ms, Us, NoWord}
 use Rattle.text.specs.declared.Shape.{Shape}
 use Rattle.text.specs.declared.Form.{Form}
 use Rattle.text.specs.declared.Form.the-variants.{Shaped, Unformed}
-use Rattle.text.specs.Words.{wordText, arity, isAnyWord, isWordOf, wordNamed}
-use Rattle.text.specs.Lines.{shape, notOfForm, onNumber, onAmount, ofWord, isRot, second, shapeOf, formOf, lineFor, shapeLine}
+use Rattle.text.specs.Words.{takesAmount, wordText, arity, isAnyWord, isWordOf, wordNamed}
+use Rattle.text.specs.Lines.{shape, notOfForm, onNumber, onAmount, ofWord, second, shapeOf, formOf, lineFor, shapeLine}
 use Rattle.text.specs.Write.{fieldsOf}
 use Rattle.text.proofs.WordLaws.{any-word, word-is}
 
@@ -90,7 +90,7 @@ one-field Ms a t e = absurd (omega arith)
 one-field Us a t e = absurd (omega arith)
 one-field NoWord a t e = absurd (omega arith)
 
-two-fields : (w : Word) (a b : ℕ) → T (isAnyWord w) → isRot w ≡ false → arity w ≡ 2 → fieldsOf (lineFor w a b 0 (pos 0)) ≡ wordText w ∷ decimal a ∷ decimal b ∷ []
+two-fields : (w : Word) (a b : ℕ) → T (isAnyWord w) → takesAmount w ≡ false → arity w ≡ 2 → fieldsOf (lineFor w a b 0 (pos 0)) ≡ wordText w ∷ decimal a ∷ decimal b ∷ []
 two-fields In a b t r e = absurd (omega arith)
 two-fields Const a b t r e = absurd (omega arith)
 two-fields Neg a b t r e = absurd (omega arith)
@@ -104,7 +104,7 @@ two-fields Ms a b t r e = refl
 two-fields Us a b t r e = refl
 two-fields NoWord a b t r e = absurd t
 
-rot-fields : (w : Word) (a : ℕ) (t : ℤ) → isRot w ≡ true → fieldsOf (lineFor w a 0 0 t) ≡ wordText w ∷ decimal a ∷ amountText t ∷ []
+rot-fields : (w : Word) (a : ℕ) (t : ℤ) → takesAmount w ≡ true → fieldsOf (lineFor w a 0 0 t) ≡ wordText w ∷ decimal a ∷ amountText t ∷ []
 rot-fields In a t r = absurd (let z : _≡_ {A = ℕ} 0 1 = cc in omega arith)
 rot-fields Const a t r = absurd (let z : _≡_ {A = ℕ} 0 1 = cc in omega arith)
 rot-fields Neg a t r = absurd (let z : _≡_ {A = ℕ} 0 1 = cc in omega arith)
@@ -154,9 +154,9 @@ module _ (g : Grammar) (place : ℕ) (w : Word) where
       }
 
   second-back : (n : ℕ) (a b : Bytes) {s : Shape} → T (isWordOf g w) → arity w ≡ 2 → decimal n ≡ a → length a ≤ 11 → second place w n b ≡ Shaped s → Back g w (a ∷ b ∷ []) s
-  second-back n a b {s} t e q short f = go (isRot w) refl f
+  second-back n a b {s} t e q short f = go (takesAmount w) refl f
     where
-      go : (r : Bool) → isRot w ≡ r → cond r (onAmount place (λ t. shape w n 0 0 t) (amountOf b)) (onNumber place (λ m. shape w n m 0 (pos 0)) (numberOf b)) ≡ Shaped s → Back g w (a ∷ b ∷ []) s
+      go : (r : Bool) → takesAmount w ≡ r → cond r (onAmount place (λ t. shape w n 0 0 t) (amountOf b)) (onNumber place (λ m. shape w n m 0 (pos 0)) (numberOf b)) ≡ Shaped s → Back g w (a ∷ b ∷ []) s
       go true r p =
           by-amount place (λ t. shape w n 0 0 t) b (Back g w (a ∷ b ∷ []) s) p (λ k u l v.
           known (record { word = w; first = n; second = 0; third = 0; turn = k }) (a ∷ b ∷ []) t refl e (one short (one l none)) v

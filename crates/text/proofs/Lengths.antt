@@ -5,7 +5,7 @@ use mathlib.Core.Path.{_≡_, refl, ap, _∙_}
 use mathlib.Core.Bool.{Bool, true, _&&_}
 use mathlib.Core.List.{List, [], _∷_}
 use mathlib.Core.Logic.{_⊎_, inl, inr}
-use lib.Dec.{T, leb→le, eqb}
+use lib.Dec.{T, eqb}
 use lib.ListN.{length, length-append}
 use lib.IntN.{ℤ, pos, negsuc, negℤ}
 use lib.Signed.{leZ}
@@ -25,18 +25,18 @@ use Rattle.model.specs.declared.Header.{Header}
 use Rattle.model.specs.declared.Line.{Line}
 use Rattle.model.specs.declared.Line.the-variants.{In, Const, Neg, Rot, Add, Mul, Out, Enc, Rs, Ms, Us, Free}
 use Rattle.model.specs.Files.{placeOf, isUsable, kindAt}
-use Rattle.model.proofs.Tests.{and-first, and-second, cond-cases, HeaderFacts}
+use Rattle.model.proofs.Tests.{and-first, and-second, cond-cases, within-facts, HeaderFacts}
 use Rattle.model.proofs.Formed.{LineFacts, usable-below}
-use Rattle.text.specs.declared.Word as W
-use Rattle.text.specs.declared.Word.{Word}
+use Rattle.model.specs.declared.Word as W
+use Rattle.model.specs.declared.Word.{Word}
 use Rattle.text.specs.declared.Shape.{Shape}
 use Rattle.text.specs.declared.Form.{Form}
 use Rattle.text.specs.declared.Form.the-variants.{Shaped, Unformed}
 use Rattle.text.specs.declared.LineRead.the-variants as Line·Read
 use Rattle.text.specs.declared.HeaderRead.the-variants as Header·Read
-use Rattle.text.specs.Words.{wordText, headerWord, arity, isWordOf, isKeptWord, wordNamed}
-use Rattle.text.specs.Lines.{notOfForm, onNumber, onAmount, ofWord, isRot, second, shape, shapeOf, formOf, formed, readLine}
-use Rattle.text.specs.Files.{headerNumbers, headerFields, readHeader}
+use Rattle.text.specs.Words.{takesAmount, wordText, headerWord, arity, isWordOf, isKeptWord, wordNamed}
+use Rattle.text.specs.Lines.{notOfForm, onNumber, onAmount, ofWord, second, shape, shapeOf, formOf, formed, readLine}
+use Rattle.text.specs.Files.{circuitContext, headerNumbers, headerFields, readHeader}
 use Rattle.text.specs.Write.{fieldsOf, headerFieldsOf}
 use Rattle.text.proofs.WordLaws.{any-word, word-is}
 use Rattle.text.proofs.Forms.{shape-back}
@@ -101,7 +101,7 @@ module _ (g : Grammar) (place : ℕ) where
 
   by-second : (w : Word) (n : ℕ) (b : Bytes) → Formed place (second place w n b)
   by-second w n b =
-      cond-cases (Formed place) (isRot w) _ _ (λ t. by-turn (λ k. shape w n 0 0 k) (amountOf b) (λ k. shaped _)) (λ t. by-field (λ m. shape w n m 0 (pos 0)) (numberOf b) (λ m. shaped _))
+      cond-cases (Formed place) (takesAmount w) _ _ (λ t. by-turn (λ k. shape w n 0 0 k) (amountOf b) (λ k. shaped _)) (λ t. by-field (λ m. shape w n m 0 (pos 0)) (numberOf b) (λ m. shaped _))
 
   shape-formed : (w : Word) (fields : List Bytes) → Formed place (shapeOf g place w fields)
   unfolding shapeOf
@@ -116,11 +116,11 @@ module _ (g : Grammar) (place : ℕ) where
   form-formed (w ∷ fields) = shape-formed (wordNamed w) fields
 
 -- a longer line is refused for its form
-pub long-line : (h : Header) (before : List Line) (p : Bytes) → 28 ≤ length p → readLine Circuit h before p ≡ Line·Read.Bad 1 (placeOf (length before))
+pub long-line : (h : Header) (before : List Line) (p : Bytes) → 28 ≤ length p → readLine circuitContext h before p ≡ Line·Read.Bad 1 (placeOf (length before))
 unfolding readLine
 long-line h before p long = go (formOf Circuit (placeOf (length before)) (split tab p)) refl (form-formed Circuit (placeOf (length before)) (split tab p))
   where
-    go : (f : Form) → formOf Circuit (placeOf (length before)) (split tab p) ≡ f → Formed (placeOf (length before)) f → formed Circuit h before f ≡ Line·Read.Bad 1 (placeOf (length before))
+    go : (f : Form) → formOf Circuit (placeOf (length before)) (split tab p) ≡ f → Formed (placeOf (length before)) f → formed circuitContext h before f ≡ Line·Read.Bad 1 (placeOf (length before))
     go _ e (shaped s) =
         let most = fields-most (placeOf (length before)) (split tab p) e in
         let whole = ap length (join-split tab p) in
@@ -146,7 +146,7 @@ module _ (h : Header) (before : List Line) (few : length before ≤ 255) where
   good-length In f = let whole = joined (wordText W.the-variants.In) [] in omega arith
   good-length (Const k) f =
       let whole = joined (wordText W.the-variants.Const) (decimal k ∷ []) in
-      let most = leb→le k 65535 (f .range) in
+      let most = within-facts 0 65535 k (f .range) in
       let digits = decimal-length k 4 (omega arith) in
       omega arith
   good-length (Neg a) f = let whole = joined (wordText W.the-variants.Neg) (decimal a ∷ []) in let digits = operand a true (f .usable) in omega arith
@@ -177,7 +177,7 @@ pub first-length : (h : Header) (x : Line) → LineFacts Circuit h [] x → leng
 first-length h In f = let whole = joined (wordText W.the-variants.In) [] in omega arith
 first-length h (Const k) f =
     let whole = joined (wordText W.the-variants.Const) (decimal k ∷ []) in
-    let most = leb→le k 65535 (f .range) in
+    let most = within-facts 0 65535 k (f .range) in
     let digits = decimal-length k 4 (omega arith) in
     omega arith
 first-length h (Neg a) f = absurd (f .usable)

@@ -46,22 +46,22 @@ data LineAnswer (place : ℕ) : LineRead → Type 0 where
   good : (x : Line) → LineAnswer place (Line·Read.Good x)
   bad : (n : ℕ) → IsNumber n → LineAnswer place (Line·Read.Bad n place)
 
-module _ (g : Grammar) (h : Header) (before : List Line) where
-  judged-answer : (x : Line) → LineAnswer (placeOf (length before)) (judged g h before x)
+module _ (c : Context) (h : Header) (before : List Line) where
+  judged-answer : (x : Line) → LineAnswer (placeOf (length before)) (judged c h before x)
   judged-answer x =
-      cond-cases (LineAnswer (placeOf (length before))) (inRange h x) _ _
+      cond-cases (LineAnswer (placeOf (length before))) (inRange (c .grammar) h x) _ _
       (λ r. cond-cases (LineAnswer (placeOf (length before))) (everyUsable before (operands x)) _ _
-      (λ u. cond-cases (LineAnswer (placeOf (length before))) (kindsFit g before x) _ _ (λ k. good x) (λ k. bad 5 kind))
+      (λ u. cond-cases (LineAnswer (placeOf (length before))) (kindsFit (c .grammar) before x) _ _ (λ k. good x) (λ k. bad 5 kind))
       (λ u. bad 4 operand))
       (λ r. bad 11 range)
 
-  formed-answer : {f : Form} → Formed (placeOf (length before)) f → LineAnswer (placeOf (length before)) (formed g h before f)
+  formed-answer : {f : Form} → Formed (placeOf (length before)) f → LineAnswer (placeOf (length before)) (formed c h before f)
   formed-answer (shaped s) = judged-answer (shapeLine s)
   formed-answer unshaped = bad 1 form
 
-  line-answer : (p : Bytes) → LineAnswer (placeOf (length before)) (readLine g h before p)
+  line-answer : (p : Bytes) → LineAnswer (placeOf (length before)) (readLine c h before p)
   unfolding readLine
-  line-answer p = formed-answer (form-formed g (placeOf (length before)) (split tab p))
+  line-answer p = formed-answer (form-formed (c .grammar) (placeOf (length before)) (split tab p))
 
 -- ---- the header line
 data HeaderAnswer : HeaderRead → Type 0 where
@@ -98,8 +98,8 @@ not-zero operand e = omega arith
 not-zero kind e = omega arith
 not-zero range e = omega arith
 
-pub line-number : (g : Grammar) (h : Header) (before : List Line) (bytes : Bytes) {n p : ℕ} → readLine g h before bytes ≡ Line·Read.Bad n p → n ≡ 0 → ⊥
-line-number g h before bytes {n} {p} e = not-zero (go (line-answer g h before bytes) e)
+pub line-number : (c : Context) (h : Header) (before : List Line) (bytes : Bytes) {n p : ℕ} → readLine c h before bytes ≡ Line·Read.Bad n p → n ≡ 0 → ⊥
+line-number c h before bytes {n} {p} e = not-zero (go (line-answer c h before bytes) e)
   where
     go : {l : LineRead} → LineAnswer (placeOf (length before)) l → l ≡ Line·Read.Bad n p → IsNumber n
     go (good x) q = absurd (let z : _≡_ {A = ℕ} 0 1 = cc in omega arith)
@@ -132,7 +132,7 @@ module _ (c : Context) (h : Header) where
   lines-refusal (r ∷ s ∷ ps) done {n} {p} e =
       cond-cases (λ v. v ≡ refused n p → At 1 (suc (length done) + length (r ∷ s ∷ ps)) n p) (tooMany c done r) _ _
       (λ t q. told 1 (suc (length done) + length (r ∷ s ∷ ps)) lines (omega arith) (omega arith) q)
-      (λ t q. go (line-answer (c .grammar) h done r) (λ x. lines-refusal (s ∷ ps) (done ++ (x ∷ []))) q) e
+      (λ t q. go (line-answer c h done r) (λ x. lines-refusal (s ∷ ps) (done ++ (x ∷ []))) q) e
     where
       go : {l : LineRead} → LineAnswer (placeOf (length done)) l
           → ((x : Line) → readLines c h (s ∷ ps) (done ++ (x ∷ [])) ≡ refused n p → At 1 (suc (length (done ++ (x ∷ []))) + length (s ∷ ps)) n p)
@@ -181,7 +181,7 @@ module _ (c : Context) (h : Header) where
   lines-stay [] done qs some e = read-refused (record { header = h; lines = done }) e
   lines-stay (r ∷ ps) done qs {n} {p} some e =
       closed c h r (ps ++ qs) done (let a = length-append ps qs in omega arith)
-      ∙ go (tooMany c done r) (readLine (c .grammar) h done r) (λ x. lines-stay ps (done ++ (x ∷ [])) qs some) (sym (closed c h r (ps ++ ([] ∷ [])) done (let a = length-append ps ([] ∷ []) in omega arith)) ∙ e)
+      ∙ go (tooMany c done r) (readLine c h done r) (λ x. lines-stay ps (done ++ (x ∷ [])) qs some) (sym (closed c h r (ps ++ ([] ∷ [])) done (let a = length-append ps ([] ∷ []) in omega arith)) ∙ e)
     where
       go : (t : Bool) (l : LineRead) → ((x : Line) → readLines c h (ps ++ ([] ∷ [])) (done ++ (x ∷ [])) ≡ refused n p → readLines c h (ps ++ qs) (done ++ (x ∷ [])) ≡ refused n p)
           → cond t (refused 3 (placeOf (length done))) (onward l (λ x. readLines c h (ps ++ ([] ∷ [])) (done ++ (x ∷ [])))) ≡ refused n p

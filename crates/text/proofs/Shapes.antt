@@ -3,7 +3,7 @@ use Prim.Native.Nat.{ℕ, _<_, _≤_, _^_}
 use native.Mathlib.Omega.{arith}
 use mathlib.Core.Path.{_≡_, refl, ap, _∙_}
 use mathlib.Core.Bool.{Bool, true, _&&_}
-use mathlib.Core.List.{List, [], _∷_}
+use mathlib.Core.List.{List, [], _∷_, map}
 use lib.Dec.{T, eqb, leb, leb→le}
 use lib.IntN.{ℤ, pos}
 use Rattle.fields.specs.Pieces.{Bytes}
@@ -17,16 +17,17 @@ use Rattle.model.specs.declared.Grammar.the-variants.{Circuit, Schedule}
 use Rattle.model.specs.declared.Header.{Header}
 use Rattle.model.specs.declared.Line as L
 use Rattle.model.specs.declared.Line.{Line}
-use Rattle.model.specs.Files.{isWord, isCircuitWord}
+use Rattle.model.specs.Words.{Given, natural, signed}
+use Rattle.model.specs.Files.{wordOf, given}
 use Rattle.model.proofs.Tests.{and-first, and-second, and-both, eq-passes, cond-true}
-use Rattle.text.specs.declared.Word.{Word}
-use Rattle.text.specs.declared.Word.the-variants.{In, Const, Neg, Rot, Add, Mul, Out, Enc, Rs, Ms, Us, NoWord}
+use Rattle.model.specs.declared.Word.{Word}
+use Rattle.model.specs.declared.Word.the-variants.{In, Const, Neg, Rot, Add, Mul, Out, Enc, Rs, Ms, Us, NoWord}
 use Rattle.text.specs.declared.Shape.{Shape}
 use Rattle.text.specs.declared.Form.{Form}
 use Rattle.text.specs.declared.Form.the-variants.{Shaped}
-use Rattle.text.specs.Words.{wordText, headerWord, arity, isKeptWord, isAnyWord, isWordOf}
+use Rattle.text.specs.Words.{wordText, headerWord, arity, isWordOf}
 use Rattle.text.specs.Lines.{notOfForm, ofWord, onNumber, onAmount, shapeOf, formOf, shapeLine}
-use Rattle.text.specs.Write.{fieldsOf, headerFieldsOf}
+use Rattle.text.specs.Write.{givenText, fieldsOf, headerFieldsOf}
 use Rattle.text.proofs.WordLaws.{any-word, named-word}
 
 -- ---- a line's word, its numbers and its amount
@@ -47,9 +48,6 @@ shapeFor (L.the-variants.Ms a c) = shaped Ms a c 0 (pos 0)
 shapeFor (L.the-variants.Us a b) = shaped Us a b 0 (pos 0)
 shapeFor L.the-variants.Free = shaped NoWord 0 0 0 (pos 0)
 
-abbrev pub wordFor : Line → Word
-wordFor x = shapeFor x .word
-
 pub shape-line : (x : Line) → shapeLine (shapeFor x) ≡ x
 shape-line L.the-variants.In = refl
 shape-line (L.the-variants.Const k) = refl
@@ -63,65 +61,6 @@ shape-line (L.the-variants.Rs a c) = refl
 shape-line (L.the-variants.Ms a c) = refl
 shape-line (L.the-variants.Us a b) = refl
 shape-line L.the-variants.Free = refl
-
--- the model's words are the text's
-pub kept-word : (x : Line) → isKeptWord (wordFor x) ≡ isCircuitWord x
-kept-word L.the-variants.In = refl
-kept-word (L.the-variants.Const k) = refl
-kept-word (L.the-variants.Neg a) = refl
-kept-word (L.the-variants.Rot a t) = refl
-kept-word (L.the-variants.Add a b) = refl
-kept-word (L.the-variants.Mul a b) = refl
-kept-word (L.the-variants.Out a) = refl
-kept-word (L.the-variants.Enc a s e) = refl
-kept-word (L.the-variants.Rs a c) = refl
-kept-word (L.the-variants.Ms a c) = refl
-kept-word (L.the-variants.Us a b) = refl
-kept-word L.the-variants.Free = refl
-
-pub same-word : (g : Grammar) (x : Line) → isWordOf g (wordFor x) ≡ isWord g x
-same-word Circuit x = kept-word x
-same-word Schedule L.the-variants.In = refl
-same-word Schedule (L.the-variants.Const k) = refl
-same-word Schedule (L.the-variants.Neg a) = refl
-same-word Schedule (L.the-variants.Rot a t) = refl
-same-word Schedule (L.the-variants.Add a b) = refl
-same-word Schedule (L.the-variants.Mul a b) = refl
-same-word Schedule (L.the-variants.Out a) = refl
-same-word Schedule (L.the-variants.Enc a s e) = refl
-same-word Schedule (L.the-variants.Rs a c) = refl
-same-word Schedule (L.the-variants.Ms a c) = refl
-same-word Schedule (L.the-variants.Us a b) = refl
-same-word Schedule L.the-variants.Free = refl
-
--- a line's fields begin with its word
-abbrev pub fieldsAfter : Line → List Bytes
-fieldsAfter L.the-variants.In = []
-fieldsAfter (L.the-variants.Const k) = decimal k ∷ []
-fieldsAfter (L.the-variants.Neg a) = decimal a ∷ []
-fieldsAfter (L.the-variants.Rot a t) = decimal a ∷ amountText t ∷ []
-fieldsAfter (L.the-variants.Add a b) = decimal a ∷ decimal b ∷ []
-fieldsAfter (L.the-variants.Mul a b) = decimal a ∷ decimal b ∷ []
-fieldsAfter (L.the-variants.Out a) = decimal a ∷ []
-fieldsAfter (L.the-variants.Enc a s e) = decimal a ∷ decimal s ∷ decimal e ∷ []
-fieldsAfter (L.the-variants.Rs a c) = decimal a ∷ decimal c ∷ []
-fieldsAfter (L.the-variants.Ms a c) = decimal a ∷ decimal c ∷ []
-fieldsAfter (L.the-variants.Us a b) = decimal a ∷ decimal b ∷ []
-fieldsAfter L.the-variants.Free = []
-
-pub fields-are : (x : Line) → T (isAnyWord (wordFor x)) → fieldsOf x ≡ wordText (wordFor x) ∷ fieldsAfter x
-fields-are L.the-variants.In t = refl
-fields-are (L.the-variants.Const k) t = refl
-fields-are (L.the-variants.Neg a) t = refl
-fields-are (L.the-variants.Rot a u) t = refl
-fields-are (L.the-variants.Add a b) t = refl
-fields-are (L.the-variants.Mul a b) t = refl
-fields-are (L.the-variants.Out a) t = refl
-fields-are (L.the-variants.Enc a s e) t = refl
-fields-are (L.the-variants.Rs a c) t = refl
-fields-are (L.the-variants.Ms a c) t = refl
-fields-are (L.the-variants.Us a b) t = refl
-fields-are L.the-variants.Free t = absurd t
 
 -- the numbers fit into a field
 abbrev pub numbersOf : Line → List ℕ
@@ -139,7 +78,7 @@ module _ (g : Grammar) (place : ℕ) where
   on-number : (n : ℕ) (f : ℕ → Form) → n < 10 ^ 11 → onNumber place f (numberOf (decimal n)) ≡ f n
   on-number n f h = ap (onNumber place f) (number-decimal n h)
 
-  shaped-after : (x : Line) → T (isWordOf g (wordFor x)) → Fits x → shapeOf g place (wordFor x) (fieldsAfter x) ≡ Shaped (shapeFor x)
+  shaped-after : (x : Line) → T (isWordOf g (wordOf x)) → Fits x → shapeOf g place (wordOf x) (map givenText (given x)) ≡ Shaped (shapeFor x)
   unfolding shapeOf
   shaped-after L.the-variants.In t f = of-word 0 In _ t refl
   shaped-after (L.the-variants.Const k) t f = of-word 1 Const _ t refl ∙ on-number k _ (each-first (f .numbers))
@@ -155,10 +94,10 @@ module _ (g : Grammar) (place : ℕ) where
   shaped-after (L.the-variants.Us a b) t f = of-word 2 Us _ t refl ∙ on-number a _ (each-first (f .numbers)) ∙ on-number b _ (each-first (each-rest (f .numbers)))
   shaped-after L.the-variants.Free t f = absurd (any-word g NoWord t)
 
-  pub form-is : (x : Line) → T (isWordOf g (wordFor x)) → Fits x → formOf g place (fieldsOf x) ≡ Shaped (shapeFor x)
+  pub form-is : (x : Line) → T (isWordOf g (wordOf x)) → Fits x → formOf g place (fieldsOf x) ≡ Shaped (shapeFor x)
   form-is x t f =
-      let any = any-word g (wordFor x) t in
-      ap (formOf g place) (fields-are x any) ∙ ap (λ (w : Word). shapeOf g place w (fieldsAfter x)) (named-word (wordFor x) any) ∙ shaped-after x t f
+      let any = any-word g (wordOf x) t in
+      ap (λ (w : Word). shapeOf g place w (map givenText (given x))) (named-word (wordOf x) any) ∙ shaped-after x t f
 
 -- ---- no field has a tab or a line feed
 abbrev letters : Bytes → Bool
@@ -194,19 +133,16 @@ module _ (x : ℕ) (low : x < 45) where
   at-number : (n : ℕ) → Without x (decimal n)
   at-number n = decimal-without n x (omega arith)
 
+  at-given : (y : Given) → Without x (givenText y)
+  at-given (natural n) = at-number n
+  at-given (signed t) = amount-text-without t x low
+
+  given-without : (ys : List Given) → Each (Without x) (map givenText ys)
+  given-without [] = none
+  given-without (y ∷ ys) = one (at-given y) (given-without ys)
+
   pub fields-without : (y : Line) → Each (Without x) (fieldsOf y)
-  fields-without L.the-variants.In = one (at-word In) none
-  fields-without (L.the-variants.Const k) = one (at-word Const) (one (at-number k) none)
-  fields-without (L.the-variants.Neg a) = one (at-word Neg) (one (at-number a) none)
-  fields-without (L.the-variants.Rot a t) = one (at-word Rot) (one (at-number a) (one (amount-text-without t x low) none))
-  fields-without (L.the-variants.Add a b) = one (at-word Add) (one (at-number a) (one (at-number b) none))
-  fields-without (L.the-variants.Mul a b) = one (at-word Mul) (one (at-number a) (one (at-number b) none))
-  fields-without (L.the-variants.Out a) = one (at-word Out) (one (at-number a) none)
-  fields-without (L.the-variants.Enc a s e) = one (at-word Enc) (one (at-number a) (one (at-number s) (one (at-number e) none)))
-  fields-without (L.the-variants.Rs a c) = one (at-word Rs) (one (at-number a) (one (at-number c) none))
-  fields-without (L.the-variants.Ms a c) = one (at-word Ms) (one (at-number a) (one (at-number c) none))
-  fields-without (L.the-variants.Us a b) = one (at-word Us) (one (at-number a) (one (at-number b) none))
-  fields-without L.the-variants.Free = none
+  fields-without y = one (at-word (wordOf y)) (given-without (given y))
 
   pub header-without : (g : Grammar) (h : Header) → Each (Without x) (headerFieldsOf g h)
   header-without g h =

@@ -7,8 +7,8 @@ use Rattle.fields.proofs.PieceLaws.{same-bytes}
 use Rattle.model.specs.declared.Grammar.{Grammar}
 use Rattle.model.specs.declared.Grammar.the-variants.{Circuit, Schedule}
 use Rattle.model.proofs.Tests.{cond-cases}
-use Rattle.text.specs.declared.Word.{Word}
-use Rattle.text.specs.declared.Word.the-variants.{In, Const, Neg, Rot, Add, Mul, Out, Enc, Rs, Ms, Us, NoWord}
+use Rattle.model.specs.declared.Word.{Word}
+use Rattle.model.specs.declared.Word.the-variants.{In, Const, Neg, Rot, Add, Mul, Out, Enc, Rs, Ms, Us, NoWord}
 use Rattle.text.specs.Words.{wordText, isAnyWord, isWordOf, words, wordAmong, wordNamed}
 
 pub any-word : (g : Grammar) (w : Word) → T (isWordOf g w) → T (isAnyWord w)

@@ -82,7 +82,7 @@ readLines c h ([] ∷ []) done = read (record { header = h; lines = done })
 readLines c h ((b ∷ bs) ∷ []) done =
     cond (tooMany c done (b ∷ bs)) (refused 3 (placeOf (length done))) (refused 1 (placeOf (length done)))
 readLines c h (p ∷ q ∷ ps) done =
-    let more = onward (readLine (c .grammar) h done p) (λ x. readLines c h (q ∷ ps) (done ++ (x ∷ []))) in
+    let more = onward (readLine c h done p) (λ x. readLines c h (q ∷ ps) (done ++ (x ∷ []))) in
     cond (tooMany c done p) (refused 3 (placeOf (length done))) more
 
 -- the header line and what follows it
@@ -130,6 +130,6 @@ pub record RestFree (t : Table) : Type 0 where
   pub room : length (t .lines) ≡ 1792
   pub rest : (i : ℕ) → T (leb (t .count) i) → getD (t .lines) i (record { line = Free }) .line ≡ Free
 
--- what an answer says
+-- what an answer says: a file where number and place are 0
 abbrev pub readingOf : FileRead → Reading
-readingOf r = cond (eqb (r .number) 0) (read (fileOf (r .table))) (refused (r .number) (r .place))
+readingOf r = cond (eqb (r .number) 0 && eqb (r .place) 0) (read (fileOf (r .table))) (refused (r .number) (r .place))

@@ -1,6 +1,6 @@
--- Document 01, "The two files" and "Refused": what a line reads to. "per line 3, 1, 2 or 11, 4, 5"; 3 stands with the files.
+-- Document 01, "The two files" and "Refused": what a line reads to. "per line 3, 1, 2 or 11, 4, 5"; 3 and 2 stand with the files.
 use Prim.Native.Nat.{ℕ}
-use mathlib.Core.Bool.{Bool, true, false, cond, _&&_}
+use mathlib.Core.Bool.{cond, _&&_}
 use mathlib.Core.List.{List, [], _∷_}
 use lib.Dec.{eqb}
 use lib.ListN.{length}
@@ -16,14 +16,15 @@ use Rattle.model.specs.declared.Header.{Header}
 use Rattle.model.specs.declared.Line as L
 use Rattle.model.specs.declared.Line.{Line}
 use Rattle.model.specs.Files.{placeOf, inRange, operands, everyUsable, kindsFit}
-use Rattle.text.specs.declared.Word.{Word}
-use Rattle.text.specs.declared.Word.the-variants.{In, Const, Neg, Rot, Add, Mul, Out, Enc, Rs, Ms, Us, NoWord}
+use Rattle.model.specs.declared.Word.{Word}
+use Rattle.model.specs.declared.Word.the-variants.{In, Const, Neg, Rot, Add, Mul, Out, Enc, Rs, Ms, Us, NoWord}
+use Rattle.text.specs.declared.Context.{Context}
 use Rattle.text.specs.declared.Shape.{Shape}
 use Rattle.text.specs.declared.Form.{Form}
 use Rattle.text.specs.declared.Form.the-variants.{Shaped, Unformed}
 use Rattle.text.specs.declared.LineRead.{LineRead}
 use Rattle.text.specs.declared.LineRead.the-variants as Line·Read
-use Rattle.text.specs.Words.{arity, isWordOf, wordNamed}
+use Rattle.text.specs.Words.{arity, takesAmount, isWordOf, wordNamed}
 
 -- ---- the form of a line: its word, and fields that are numbers
 -- "1 text not of the form."
@@ -46,24 +47,10 @@ onAmount place f NoAmount = notOfForm place
 abbrev pub ofWord : Grammar → ℕ → ℕ → Word → Form → Form
 ofWord g place n w form = cond (isWordOf g w && eqb (arity w) n) form (notOfForm place)
 
--- "`rot A T`": the second field of a rotation is an amount, of any other word a number
-abbrev pub isRot : Word → Bool
-isRot In = false
-isRot Const = false
-isRot Neg = false
-isRot Rot = true
-isRot Add = false
-isRot Mul = false
-isRot Out = false
-isRot Enc = false
-isRot Rs = false
-isRot Ms = false
-isRot Us = false
-isRot NoWord = false
-
+-- the second field: an amount where the word takes one, else a number
 abbrev pub second : ℕ → Word → ℕ → Bytes → Form
 second place w a b =
-    cond (isRot w) (onAmount place (λ t. shape w a 0 0 t) (amountOf b)) (onNumber place (λ n. shape w a n 0 (pos 0)) (numberOf b))
+    cond (takesAmount w) (onAmount place (λ t. shape w a 0 0 t) (amountOf b)) (onNumber place (λ n. shape w a n 0 (pos 0)) (numberOf b))
 
 -- a word and the fields after it
 unfoldable pub shapeOf : Grammar → ℕ → Word → List Bytes → Form
@@ -99,18 +86,18 @@ abbrev pub shapeLine : Shape → Line
 shapeLine s = lineFor (s .word) (s .first) (s .second) (s .third) (s .turn)
 
 -- ---- ranges, operands and kinds, in this order
-abbrev pub judged : Grammar → Header → List Line → Line → LineRead
-judged g h before x =
-    cond (inRange h x)
+abbrev pub judged : Context → Header → List Line → Line → LineRead
+judged c h before x =
+    cond (inRange (c .grammar) h x)
     (cond (everyUsable before (operands x))
-    (cond (kindsFit g before x) (Line·Read.Good x) (Line·Read.Bad 5 (placeOf (length before))))
+    (cond (kindsFit (c .grammar) before x) (Line·Read.Good x) (Line·Read.Bad 5 (placeOf (length before))))
     (Line·Read.Bad 4 (placeOf (length before))))
     (Line·Read.Bad 11 (placeOf (length before)))
 
-abbrev pub formed : Grammar → Header → List Line → Form → LineRead
-formed g h before (Shaped s) = judged g h before (shapeLine s)
-formed g h before (Unformed n p) = Line·Read.Bad n p
+abbrev pub formed : Context → Header → List Line → Form → LineRead
+formed c h before (Shaped s) = judged c h before (shapeLine s)
+formed c h before (Unformed n p) = Line·Read.Bad n p
 
 -- one line, without its line feed, after the lines before it
-unfoldable pub readLine : Grammar → Header → List Line → Bytes → LineRead
-readLine g h before bytes = formed g h before (formOf g (placeOf (length before)) (split tab bytes))
+unfoldable pub readLine : Context → Header → List Line → Bytes → LineRead
+readLine c h before bytes = formed c h before (formOf (c .grammar) (placeOf (length before)) (split tab bytes))

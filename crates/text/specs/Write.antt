@@ -1,29 +1,22 @@
 -- The text that a file is written as: "Text, one record a line, fields parted by one tab, every line closed by a line feed."
-use mathlib.Core.List.{List, [], _∷_, _++_}
+use mathlib.Core.List.{List, [], _∷_, _++_, map}
 use Rattle.fields.specs.Pieces.{Bytes, tab, lineFeed, join}
 use Rattle.fields.specs.Numbers.{decimal, amountText}
 use Rattle.model.specs.declared.Grammar.{Grammar}
 use Rattle.model.specs.declared.Header.{Header}
 use Rattle.model.specs.declared.Line.{Line}
-use Rattle.model.specs.declared.Line.the-variants.{In, Const, Neg, Rot, Add, Mul, Out, Enc, Rs, Ms, Us, Free}
-use Rattle.model.specs.Files.{File}
-use Rattle.text.specs.declared.Word as W
+use Rattle.model.specs.Words.{Given, natural, signed}
+use Rattle.model.specs.Files.{File, wordOf, given}
 use Rattle.text.specs.Words.{wordText, headerWord}
 
--- the fields of a line, its word first; a free record has none
+-- the bytes of what stands in a field
+abbrev pub givenText : Given → Bytes
+givenText (natural n) = decimal n
+givenText (signed t) = amountText t
+
+-- the fields of a line, its word first
 abbrev pub fieldsOf : Line → List Bytes
-fieldsOf In = wordText W.the-variants.In ∷ []
-fieldsOf (Const k) = wordText W.the-variants.Const ∷ decimal k ∷ []
-fieldsOf (Neg a) = wordText W.the-variants.Neg ∷ decimal a ∷ []
-fieldsOf (Rot a t) = wordText W.the-variants.Rot ∷ decimal a ∷ amountText t ∷ []
-fieldsOf (Add a b) = wordText W.the-variants.Add ∷ decimal a ∷ decimal b ∷ []
-fieldsOf (Mul a b) = wordText W.the-variants.Mul ∷ decimal a ∷ decimal b ∷ []
-fieldsOf (Out a) = wordText W.the-variants.Out ∷ decimal a ∷ []
-fieldsOf (Enc a s e) = wordText W.the-variants.Enc ∷ decimal a ∷ decimal s ∷ decimal e ∷ []
-fieldsOf (Rs a c) = wordText W.the-variants.Rs ∷ decimal a ∷ decimal c ∷ []
-fieldsOf (Ms a c) = wordText W.the-variants.Ms ∷ decimal a ∷ decimal c ∷ []
-fieldsOf (Us a b) = wordText W.the-variants.Us ∷ decimal a ∷ decimal b ∷ []
-fieldsOf Free = []
+fieldsOf x = wordText (wordOf x) ∷ map givenText (given x)
 
 abbrev pub headerFieldsOf : Grammar → Header → List Bytes
 headerFieldsOf g h = headerWord g ∷ decimal (h .factor) ∷ decimal (h .waterline) ∷ decimal (h .top) ∷ []

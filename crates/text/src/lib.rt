@@ -3,24 +3,9 @@ use model::Grammar;
 use model::Header;
 use model::Line;
 use model::Table;
+use model::Word;
 
-// The words of document 01's lines, and no word of them.
-pub enum Word {
-    In,
-    Const,
-    Neg,
-    Rot,
-    Add,
-    Mul,
-    Out,
-    Enc,
-    Rs,
-    Ms,
-    Us,
-    NoWord,
-}
-
-// A line by its form alone: its word and the numbers of its fields, 0 where it has none.
+// A line by its form alone: its word and the numbers of its fields in their order, 0 where it has none. The amount of a rotation is `turn`.
 pub struct Shape {
     pub word: Word,
     pub first: u64,
@@ -54,7 +39,7 @@ pub struct Context {
     pub kept: usize,
 }
 
-// What reading a file comes to: the table, or with a number that is not 0 a refusal, whose table means nothing.
+// What reading a file comes to: with number and place 0 the table, else a refusal, whose table means nothing.
 pub struct FileRead {
     pub number: u32,
     pub place: u32,

@@ -15,7 +15,7 @@ use Rattle.model.specs.declared.Grammar.the-variants.{Circuit, Schedule}
 use Rattle.model.specs.declared.Header.{Header}
 use Rattle.model.specs.declared.Line.{Line}
 use Rattle.model.specs.declared.Line.the-variants.{In, Rot, Free}
-use Rattle.text.specs.declared.Word as W
+use Rattle.model.specs.declared.Word as W
 use Rattle.text.specs.Words.{wordText, headerWord}
 use Rattle.text.specs.Write.{fieldsOf, headerFieldsOf, fieldsText}
 use Rattle.writer.specs.Put.{Counted}

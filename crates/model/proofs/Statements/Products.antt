@@ -7,7 +7,8 @@ use lib.IntN.{ℤ, pos}
 use lib.Signed.{_≤ℤ_, _<ℤ_}
 use Rattle.model.specs.declared.Header.{Header}
 use Rattle.model.specs.Scales.{headerInRange}
-use Rattle.model.specs.Plan.{Placement, smaller, atWaterline, placeProduct, productAt}
+use Rattle.model.specs.declared.Placement.{Placement}
+use Rattle.model.specs.Plan.{smaller, atWaterline, placeProduct, productAt}
 
 pub record IsOptimum (h : Header) (r r′ : ℤ) (p : Placement) : Type 0 where
   pub attained : p .reserve ≡ productAt h r r′ (p .level)

@@ -15,7 +15,8 @@ use Rattle.model.specs.Scales.{reserve}
 use Rattle.model.specs.Files.{wellFormed, kindOf, isCiphertext}
 use Rattle.model.specs.Machine.{finished, run}
 use Rattle.model.specs.Rules.{KeepsRules}
-use Rattle.model.specs.Plan.{Placement, Best, bestMachine}
+use Rattle.model.specs.declared.Placement.{Placement}
+use Rattle.model.specs.Plan.{Best, bestMachine}
 use Rattle.model.specs.Services.{erase, origins}
 
 -- line i of the schedule, against its circuit line

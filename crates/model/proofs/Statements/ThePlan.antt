@@ -14,7 +14,8 @@ use Rattle.model.specs.Scales.{reserve}
 use Rattle.model.specs.Files.{File, wellFormed, kindOf, isCiphertext, limit}
 use Rattle.model.specs.Machine.{finished, run}
 use Rattle.model.specs.Rules.{KeepsRules}
-use Rattle.model.specs.Plan.{Placement, Best, bestMachine}
+use Rattle.model.specs.declared.Placement.{Placement}
+use Rattle.model.specs.Plan.{Best, bestMachine}
 use Rattle.model.specs.Services.{written, plan, keptLines}
 use Rattle.model.specs.Refused.{check}
 use Rattle.model.specs.Demands.{Passed}

@@ -34,7 +34,7 @@ module _
   definition :
       (done : List Line) → codes done ≡ kinds → kept ≡ keptCount done →
       nextLine c h done text
-      ≡ cond over (Bad 3 (length kinds + 2)) (cond (ltb end (length text)) (readLine (c .grammar) h done (take end text)) (Bad 1 (length kinds + 2)))
+      ≡ cond over (Bad 3 (length kinds + 2)) (cond (ltb end (length text)) (readLine c h done (take end text)) (Bad 1 (length kinds + 2)))
   unfolding nextLine pastLimits
   definition done coded counted =
       let same : length kinds ≡ length done = ap length (sym coded) ∙ length-map done (λ (x : Line). codeOf (kindOf x)) in
@@ -50,7 +50,7 @@ module _
 
   closed :
       over ≡ false → end < length text → (got : LineRead) →
-      ((before : List Line) → codes before ≡ kinds → got ≡ readLine (c .grammar) h before (take end text)) → (done : List Line) → codes done ≡ kinds →
+      ((before : List Line) → codes before ≡ kinds → got ≡ readLine c h before (take end text)) → (done : List Line) → codes done ≡ kinds →
       kept ≡ keptCount done → got ≡ nextLine c h done text
   closed e inside got told done coded counted =
       rw (definition done coded counted, e, lt-ltb end (length text) inside) (told done coded)

@@ -12,7 +12,7 @@ use Rattle.model.specs.declared.Grammar.the-variants.{Circuit, Schedule}
 use Rattle.model.specs.declared.Header.{Header}
 use Rattle.model.specs.declared.Line as L
 use Rattle.model.specs.declared.Line.{Line}
-use Rattle.text.specs.declared.Word.the-variants.{In, Const, Neg, Rot, Add, Mul, Out, Enc, Rs, Ms, Us}
+use Rattle.model.specs.declared.Word.the-variants.{In, Const, Neg, Rot, Add, Mul, Out, Enc, Rs, Ms, Us}
 use Rattle.text.specs.Words.{wordText, headerWord}
 use Rattle.text.specs.Files.{Reading, read, refused, readText, circuitContext, scheduleContext, eraseContext}
 use Rattle.text.specs.Write.{fieldsText, linesText}

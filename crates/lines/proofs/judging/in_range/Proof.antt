@@ -18,7 +18,6 @@ in-range-spec =
     (λ c. search judge-laws)
     (λ c κs. search judge-laws)
     (λ c. search judge-laws)
-    (λ c. search judge-laws)
     (λ c κs. search judge-laws)
     (λ c. search judge-laws)
     (λ c κs. search judge-laws)

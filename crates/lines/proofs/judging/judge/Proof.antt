@@ -28,7 +28,7 @@ judge-spec =
     let else1 = operands .before in
     let start = else1 .before .before .before in
     let a = start .args in
-    numbers-small (a .grammar) (a .header) (a .shape) (a .before .now) _ (else1 .before .in-range .ensures) (not-false _ (else1 .if1 .left))
+    numbers-small (a .context) (a .header) (a .shape) (a .before .now) _ (else1 .before .in-range .ensures) (not-false _ (else1 .if1 .left))
     _ _ (first .kind-at .ensures) (second .kind-at2 .ensures) _ (operands .operands-of .ensures) _ (else2 .before .usable .ensures)
     (not-false _ (else2 .if2 .left))
     (start .pre .1) (start .pre .0) (record { fits = omega (arith, start .good .1 .0) }))
@@ -41,7 +41,7 @@ judge-spec =
     let else1 = operands .before in
     let start = else1 .before .before .before in
     let a = start .args in
-    fits (a .grammar) (a .header) (a .shape) (a .before .now) _ (else1 .before .in-range .ensures) (not-false _ (else1 .if1 .left))
+    fits (a .context) (a .header) (a .shape) (a .before .now) _ (else1 .before .in-range .ensures) (not-false _ (else1 .if1 .left))
     _ _ (first .kind-at .ensures) (second .kind-at2 .ensures) _ (operands .operands-of .ensures) _ (else2 .before .usable .ensures)
     (not-false _ (else2 .if2 .left))
     _ (else3 .before .kinds-fit .ensures) (not-false _ (else3 .if3 .left)) _ (c .line-of .ensures)))
