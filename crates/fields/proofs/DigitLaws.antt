@@ -98,6 +98,9 @@ written-some k n =
     by-tenths (λ k n p. 1 ≤ k → 1 ≤ length p) (λ n h. h) (λ k n h g. omega arith)
     (λ k n h p g. simp length-append (omega arith)) (suc k) n (omega arith)
 
+pub written-most : (k n : ℕ) → length (decimalIn k n) ≤ k
+written-most = by-tenths (λ k n p. length p ≤ k) (λ n. omega arith) (λ k n h. omega arith) (λ k n h p. simp length-append (omega arith))
+
 pub written-short : (k n j : ℕ) → n < 10 ^ suc j → length (decimalIn k n) ≤ suc j
 written-short =
     by-tenths (λ k n p. (j : ℕ) → n < 10 ^ suc j → length p ≤ suc j) (λ n j h. omega arith) (λ k n h j g. omega arith) more

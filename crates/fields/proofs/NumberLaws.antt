@@ -16,7 +16,7 @@ use Rattle.fields.specs.declared.Field.the-variants.{Number, NoNumber}
 use Rattle.fields.specs.declared.Amount.the-variants.{By, NoAmount}
 use Rattle.fields.proofs.Each.{Each, one, each-map}
 use Rattle.fields.proofs.PieceLaws.{Without}
-use Rattle.fields.proofs.DigitLaws.{Digit, number-is, no-number, first-digit, rest-digits, digits-below, decimal-one, written-digits, written-some, written-short, leading-zero, read-written, write-read}
+use Rattle.fields.proofs.DigitLaws.{Digit, number-is, no-number, first-digit, rest-digits, digits-below, decimal-one, written-digits, written-some, written-most, written-short, leading-zero, read-written, write-read}
 
 -- ---- which fields are read as numbers
 pub number-zero : (f : Bytes) → 1 < length f → getD f 0 0 ≡ 48 → numberOf f ≡ NoNumber
@@ -87,6 +87,9 @@ decimal-number (b ∷ c ∷ bs) {n} e =
 
 -- ---- a number as a field
 module _ (n : ℕ) where
+  pub decimal-most : length (decimal n) ≤ 20
+  decimal-most = written-most 20 n
+
   pub decimal-digits : Each Digit (decimal n)
   decimal-digits = written-digits 20 n
 

@@ -13,7 +13,9 @@ use Rattle.model.specs.declared.Header.{Header}
 use Rattle.model.specs.Scales.{floor}
 use Rattle.model.specs.Rules.{Bounds}
 use Rattle.model.specs.Machine.{Step, goes, stops}
-use Rattle.model.specs.Refused.{Found, bounded, sum, product}
+use Rattle.model.specs.declared.Found.{Found}
+use Rattle.model.specs.declared.Found.the-variants as Founds
+use Rattle.model.specs.Refused.{bounded, sum, product}
 use Rattle.model.proofs.Tests.{cond-cases, cond-true}
 
 module _ (h : Header) where
@@ -35,11 +37,11 @@ module _ (h : Header) where
         cond-cases P (leZ (pos (h .waterline)) s) _ _
         (λ t. cond-cases P (leZ (s +ℤ pos (floor h)) (pos (h .factor) *ℤ l)) _ _ (k t) (λ u. nine)) (λ t. ten)
 
-    pub sum-cases : (s l s′ l′ : ℕ) → (l ≡ l′ → s ≡ s′ → P (bounded h Found.ciphertext (pos s) (pos l))) → (T (not (eqb s s′)) → P (stops 8)) → (T (not (eqb l l′)) → P (stops 7)) → P (sum h s l s′ l′)
+    pub sum-cases : (s l s′ l′ : ℕ) → (l ≡ l′ → s ≡ s′ → P (bounded h Founds.Ciphertext (pos s) (pos l))) → (T (not (eqb s s′)) → P (stops 8)) → (T (not (eqb l l′)) → P (stops 7)) → P (sum h s l s′ l′)
     sum-cases s l s′ l′ k eight seven =
         cond-cases P (eqb l l′) _ _ (λ t. cond-cases P (eqb s s′) _ _ (λ u. k (eqb→eq l l′ t) (eqb→eq s s′ u)) eight) seven
 
-    pub product-cases : (s l s′ l′ : ℕ) → (l ≡ l′ → P (bounded h Found.ciphertext (pos (s + s′)) (pos l))) → (T (not (eqb l l′)) → P (stops 7)) → P (product h s l s′ l′)
+    pub product-cases : (s l s′ l′ : ℕ) → (l ≡ l′ → P (bounded h Founds.Ciphertext (pos (s + s′)) (pos l))) → (T (not (eqb l l′)) → P (stops 7)) → P (product h s l s′ l′)
     product-cases s l s′ l′ k seven = cond-cases P (eqb l l′) _ _ (λ t. k (eqb→eq l l′ t)) seven
 
   positive-times : (l : ℤ) → positive (pos (h .factor) *ℤ l) ≡ h .factor * positive l

@@ -25,7 +25,9 @@ use Rattle.model.specs.Scales.{headerInRange, floor}
 use Rattle.model.specs.Files.{placeOf, isWord, inRange, isCiphertext, isConstant, isEncoded, isPair, wellFormed}
 use Rattle.model.specs.Machine.{Step, Run, finished, stopped, andThen, operand, step, run}
 use Rattle.model.specs.Rules.{Rule, Bounds, hasScale, KeepsRules}
-use Rattle.model.specs.Refused.{Found, bare, encoded, ciphertext, bounded, onBare, onCiphertext, onPair, sum, product, checkMachine, rulesAnswer}
+use Rattle.model.specs.declared.Found.{Found}
+use Rattle.model.specs.declared.Found.the-variants as Founds
+use Rattle.model.specs.Refused.{bounded, onBare, onCiphertext, onPair, sum, product, checkMachine, rulesAnswer}
 use Rattle.model.proofs.Lists.{found-below, found-is}
 use Rattle.model.proofs.Bounded.{bounded-goes, bounded-cases, sum-cases, product-cases, Tested, tested}
 use Rattle.model.proofs.Tests.{and-first, and-second, or-cases, or-first, or-second, eq-passes, header-facts}
@@ -34,51 +36,51 @@ use Rattle.model.proofs.Formed.{well-header, well-lines, line-place, Ma
 
 -- ---- what the check finds: its kind, and its numbers where it has them
 abbrev pub foundKind : Found → Kind
-foundKind bare = Constant
-foundKind (encoded s l) = Encoded
-foundKind (ciphertext s l) = Ciphertext
+foundKind Founds.Bare = Constant
+foundKind (Founds.Encoded s l) = Encoded
+foundKind (Founds.Ciphertext s l) = Ciphertext
 
 abbrev pub scaleOf : Found → ℕ
-scaleOf bare = 0
-scaleOf (encoded s l) = s
-scaleOf (ciphertext s l) = s
+scaleOf Founds.Bare = 0
+scaleOf (Founds.Encoded s l) = s
+scaleOf (Founds.Ciphertext s l) = s
 
 abbrev pub levelOf : Found → ℕ
-levelOf bare = 0
-levelOf (encoded s l) = l
-levelOf (ciphertext s l) = l
+levelOf Founds.Bare = 0
+levelOf (Founds.Encoded s l) = l
+levelOf (Founds.Ciphertext s l) = l
 
 abbrev pub InBounds : Header → Found → Type 0
-InBounds h bare = Unit {0}
-InBounds h (encoded s l) = Bounds h s l
-InBounds h (ciphertext s l) = Bounds h s l
+InBounds h Founds.Bare = Unit {0}
+InBounds h (Founds.Encoded s l) = Bounds h s l
+InBounds h (Founds.Ciphertext s l) = Bounds h s l
 
 -- the scales and levels that a finished check found
 abbrev pub scaleIn : List Found → ℕ → ℕ
-scaleIn found i = scaleOf (getD found i bare)
+scaleIn found i = scaleOf (getD found i Founds.Bare)
 
 abbrev pub levelIn : List Found → ℕ → ℕ
-levelIn found i = levelOf (getD found i bare)
+levelIn found i = levelOf (getD found i Founds.Bare)
 
 -- ---- what the check's combinators come to, where the reasons A are allowed and P is wanted of the value
 module _ (A : ℕ → Type 0) (P : Found → Type 0) where
   pub on-bare : (r : Step Found ℕ) (v : Found) → (T (not (isConstant (foundKind v))) → A 5) → Outcome A P r → Outcome A P (onBare r v)
-  on-bare r bare n p = p
-  on-bare r (encoded s l) n p = n tt
-  on-bare r (ciphertext s l) n p = n tt
+  on-bare r Founds.Bare n p = p
+  on-bare r (Founds.Encoded s l) n p = n tt
+  on-bare r (Founds.Ciphertext s l) n p = n tt
 
   pub on-ciphertext : (f : ℕ → ℕ → Step Found ℕ) (v : Found) → (T (not (isCiphertext (foundKind v))) → A 5) → Outcome A P (f (scaleOf v) (levelOf v)) → Outcome A P (onCiphertext f v)
-  on-ciphertext f bare n p = n tt
-  on-ciphertext f (encoded s l) n p = n tt
-  on-ciphertext f (ciphertext s l) n p = p
+  on-ciphertext f Founds.Bare n p = n tt
+  on-ciphertext f (Founds.Encoded s l) n p = n tt
+  on-ciphertext f (Founds.Ciphertext s l) n p = p
 
   pub on-pair : (f : ℕ → ℕ → ℕ → ℕ → Step Found ℕ) (v w : Found) → (T (not (isPair Schedule (foundKind v) (foundKind w))) → A 5)
       → Outcome A P (f (scaleOf v) (levelOf v) (scaleOf w) (levelOf w)) → Outcome A P (onPair f v w)
-  on-pair f bare w n p = n tt
-  on-pair f (encoded s l) w n p = on-ciphertext (f s l) w n p
-  on-pair f (ciphertext s l) bare n p = n tt
-  on-pair f (ciphertext s l) (encoded s′ l′) n p = p
-  on-pair f (ciphertext s l) (ciphertext s′ l′) n p = p
+  on-pair f Founds.Bare w n p = n tt
+  on-pair f (Founds.Encoded s l) w n p = on-ciphertext (f s l) w n p
+  on-pair f (Founds.Ciphertext s l) Founds.Bare n p = n tt
+  on-pair f (Founds.Ciphertext s l) (Founds.Encoded s′ l′) n p = p
+  on-pair f (Founds.Ciphertext s l) (Founds.Ciphertext s′ l′) n p = p
 
   pub on-bounded : (h : Header) (make : ℕ → ℕ → Found) (s l : ℤ)
       → (T (leZ (pos (h .waterline)) s) → T (leZ (s +ℤ pos (floor h)) (pos (h .factor) *ℤ l)) → P (make (positive s) (positive l))) → A 9 → A 10
@@ -86,10 +88,10 @@ module _ (A : ℕ → Type 0) (P : Found → Type 0) where
   on-bounded h make s l k nine ten = bounded-cases h (Outcome A P) make s l k nine ten
 
   pub on-sum : (h : Header) (s l s′ l′ : ℕ) → (T (not (eqb l l′)) → A 7) → (T (not (eqb s s′)) → A 8)
-      → (l ≡ l′ → s ≡ s′ → Outcome A P (bounded h ciphertext (pos s) (pos l))) → Outcome A P (sum h s l s′ l′)
+      → (l ≡ l′ → s ≡ s′ → Outcome A P (bounded h Founds.Ciphertext (pos s) (pos l))) → Outcome A P (sum h s l s′ l′)
   on-sum h s l s′ l′ seven eight k = sum-cases h (Outcome A P) s l s′ l′ k eight seven
 
-  pub on-product : (h : Header) (s l s′ l′ : ℕ) → (T (not (eqb l l′)) → A 7) → (l ≡ l′ → Outcome A P (bounded h ciphertext (pos (s + s′)) (pos l))) → Outcome A P (product h s l s′ l′)
+  pub on-product : (h : Header) (s l s′ l′ : ℕ) → (T (not (eqb l l′)) → A 7) → (l ≡ l′ → Outcome A P (bounded h Founds.Ciphertext (pos (s + s′)) (pos l))) → Outcome A P (product h s l s′ l′)
   on-product h s l s′ l′ seven k = product-cases h (Outcome A P) s l s′ l′ k seven
 
 -- equal numbers do not differ
@@ -112,23 +114,23 @@ pub record Ruled (h : Header) (found : List Found) (i : ℕ) (x : Line) (v : Fou
 
 module _ (h : Header) (in-range : T (headerInRange h)) (found : List Found) (i : ℕ) where
   bounded-ruled : (x : Line) (s l : ℤ) → (Tested h s l → scaleIn found i ≡ positive s → levelIn found i ≡ positive l → Rule h (scaleIn found) (levelIn found) i x)
-      → Outcome AnyReason (Ruled h found i x) (bounded h ciphertext s l)
-  bounded-ruled x s l k = on-bounded AnyReason (Ruled h found i x) h ciphertext s l
+      → Outcome AnyReason (Ruled h found i x) (bounded h Founds.Ciphertext s l)
+  bounded-ruled x s l k = on-bounded AnyReason (Ruled h found i x) h Founds.Ciphertext s l
       (λ t u. let p = tested h (header-facts h in-range .waterline .least) s l t u in record { in-bounds = p .bounds; bounds = λ c. p .bounds; rule = k p }) tt tt
 
   module _ (ins : ℕ) (held : List Found) (among : (a : ℕ) (v : Found) → getElem? held a ≡ some v → getElem? found a ≡ some v) where
     one : (x : Line) (a : ℕ) (f : Found → Step Found ℕ) → ((v : Found) → scaleIn found a ≡ scaleOf v → levelIn found a ≡ levelOf v → Outcome AnyReason (Ruled h found i x) (f v))
         → Outcome AnyReason (Ruled h found i x) (andThen (operand (checkMachine h) held a) f)
     one x a f k = outcome-operand AnyReason (Ruled h found i x) (checkMachine h) held a f tt
-        (λ v e. let g = found-is found a bare (among a v e) in k v (ap scaleOf g) (ap levelOf g))
+        (λ v e. let g = found-is found a Founds.Bare (among a v e) in k v (ap scaleOf g) (ap levelOf g))
 
     -- a word on one ciphertext
     unary : (x : Line) (a : ℕ) (scale level : ℕ → ℕ → ℤ)
         → ((s l : ℕ) → scaleIn found a ≡ s → levelIn found a ≡ l → Tested h (scale s l) (level s l) → scaleIn found i ≡ positive (scale s l) → levelIn found i ≡ positive (level s l)
         → Rule h (scaleIn found) (levelIn found) i x)
-        → Outcome AnyReason (Ruled h found i x) (andThen (operand (checkMachine h) held a) (onCiphertext (λ s l. bounded h ciphertext (scale s l) (level s l))))
-    unary x a scale level k = one x a (onCiphertext (λ s l. bounded h ciphertext (scale s l) (level s l)))
-        (λ v p q. on-ciphertext AnyReason (Ruled h found i x) (λ s l. bounded h ciphertext (scale s l) (level s l)) v (λ t. tt)
+        → Outcome AnyReason (Ruled h found i x) (andThen (operand (checkMachine h) held a) (onCiphertext (λ s l. bounded h Founds.Ciphertext (scale s l) (level s l))))
+    unary x a scale level k = one x a (onCiphertext (λ s l. bounded h Founds.Ciphertext (scale s l) (level s l)))
+        (λ v p q. on-ciphertext AnyReason (Ruled h found i x) (λ s l. bounded h Founds.Ciphertext (scale s l) (level s l)) v (λ t. tt)
         (bounded-ruled x (scale (scaleOf v) (levelOf v)) (level (scaleOf v) (levelOf v)) (k (scaleOf v) (levelOf v) p q)))
 
     -- a word on a pair
@@ -149,9 +151,9 @@ module _ (h : Header) (in-range : T (headerInRange h)) (found : List Found) (i :
     ruled (Mul a b) = binary (Mul a b) a b (product h) (λ s l s′ l′ p q r u. on-product AnyReason (Ruled h found i (Mul a b)) h s l s′ l′ (λ t. tt)
         (λ e. bounded-ruled (Mul a b) (pos (s + s′)) (pos l) (λ t v w. omega arith)))
     ruled (Out a) = unary (Out a) a (λ s l. pos s) (λ s l. pos l) (λ s l p q t r u. omega arith)
-    ruled (Enc a s e) = one (Enc a s e) a (onBare (bounded h encoded (pos s) (pos e)))
-        (λ v p q. on-bare AnyReason (Ruled h found i (Enc a s e)) (bounded h encoded (pos s) (pos e)) v (λ t. tt)
-        (on-bounded AnyReason (Ruled h found i (Enc a s e)) h encoded (pos s) (pos e)
+    ruled (Enc a s e) = one (Enc a s e) a (onBare (bounded h Founds.Encoded (pos s) (pos e)))
+        (λ v p q. on-bare AnyReason (Ruled h found i (Enc a s e)) (bounded h Founds.Encoded (pos s) (pos e)) v (λ t. tt)
+        (on-bounded AnyReason (Ruled h found i (Enc a s e)) h Founds.Encoded (pos s) (pos e)
         (λ t u. let y = tested h (header-facts h in-range .waterline .least) (pos s) (pos e) t u in record { in-bounds = y .bounds; bounds = λ c. y .bounds; rule = λ r w. (r, w) }) tt tt))
     ruled (Rs a c) = unary (Rs a c) a (λ s l. pos s -ℤ pos (h .factor * c)) (λ s l. pos l -ℤ pos c)
         (λ s l p q t r u. omega (arith, taken s (h .factor * c) (t .whole-scale), taken l c (t .whole-level)))
@@ -179,13 +181,13 @@ module _ (h : Header) (s : List Line) {found : List Found} (in-range : T (header
   pub checked-rule : (i : ℕ) → i < length s → Rule h (scaleIn found) (levelIn found) i (getD s i Free)
   checked-rule i b =
       let p = ruled-at i b in
-      let g = found-is found i bare (p .there) in
+      let g = found-is found i Founds.Bare (p .there) in
       p .keeps .rule (ap scaleOf g) (ap levelOf g)
 
   pub checked-bounds : (i : ℕ) → i < length s → T (hasScale (getD s i Free)) → Bounds h (scaleIn found i) (levelIn found i)
   checked-bounds i b t =
       let p = ruled-at i b in
-      let g = found-is found i bare (p .there) in
+      let g = found-is found i Founds.Bare (p .there) in
       subst₂ (Bounds h) (sym (ap scaleOf g)) (sym (ap levelOf g)) (p .keeps .bounds t)
 
   -- what the check finds of any line is in bounds
@@ -221,16 +223,16 @@ module _ (h : Header) (scale level : ℕ → ℕ) where
         → Outcome NoReason P (bounded h make s l)
     settled P make s l e f b p = outcome-goes NoReason P (bounded h make s l) (ap₂ (bounded h make) e f ∙ bounded-goes h make (scale i) (level i) b) p
 
-    is-found : Bounds h (scale i) (level i) → Agrees i Ciphertext (ciphertext (scale i) (level i))
+    is-found : Bounds h (scale i) (level i) → Agrees i Ciphertext (Founds.Ciphertext (scale i) (level i))
     is-found b = record { kind = refl; scale-is = λ t. refl; level-is = λ t. refl; bounds = λ t. b }
 
     -- a word on one ciphertext
     on-one : (x : Line) (a : ℕ) (s l : ℕ → ℕ → ℤ) → s (scale a) (level a) ≡ pos (scale i) → l (scale a) (level a) ≡ pos (level i)
-        → (Bounds h (scale a) (level a) → Bounds h (scale i) (level i)) → (Bounds h (scale i) (level i) → Holds x (ciphertext (scale i) (level i)))
-        → OnOne NoReason Agrees i x a Ciphertext (onCiphertext (λ u w. bounded h ciphertext (s u w) (l u w)))
-    on-one x a s l e f b r v g = on-ciphertext NoReason (Holds x) (λ u w. bounded h ciphertext (s u w) (l u w)) v
+        → (Bounds h (scale a) (level a) → Bounds h (scale i) (level i)) → (Bounds h (scale i) (level i) → Holds x (Founds.Ciphertext (scale i) (level i)))
+        → OnOne NoReason Agrees i x a Ciphertext (onCiphertext (λ u w. bounded h Founds.Ciphertext (s u w) (l u w)))
+    on-one x a s l e f b r v g = on-ciphertext NoReason (Holds x) (λ u w. bounded h Founds.Ciphertext (s u w) (l u w)) v
         (λ t. subst (λ (k : Kind). T (not (isCiphertext k))) (g .kind) t)
-        (settled (Holds x) ciphertext (s (scaleOf v) (levelOf v)) (l (scaleOf v) (levelOf v)) (ap₂ s (g .scale-is tt) (g .level-is tt) ∙ e) (ap₂ l (g .scale-is tt) (g .level-is tt) ∙ f)
+        (settled (Holds x) Founds.Ciphertext (s (scaleOf v) (levelOf v)) (l (scaleOf v) (levelOf v)) (ap₂ s (g .scale-is tt) (g .level-is tt) ∙ e) (ap₂ l (g .scale-is tt) (g .level-is tt) ∙ f)
         (b (g .bounds tt)) (r (b (g .bounds tt))))
 
     -- a word on a pair
@@ -241,20 +243,20 @@ module _ (h : Header) (scale level : ℕ → ℕ) where
         (let n = pair-numbers j k t in rw (p .scale-is (n .0), p .level-is (n .0), q .scale-is (n .1), q .level-is (n .1)) r)
 
     duty : (x : Line) → T (isWord Schedule x) → Rule h scale level i x → (T (hasScale x) → Bounds h (scale i) (level i)) → Duty (checkMachine h) NoReason Agrees Schedule i x
-    duty In w r b = λ k. settled (Holds In) ciphertext (pos (h .waterline)) (pos (h .top)) (ap pos (sym (r .0))) (ap pos (sym (r .1))) (b tt) (λ u. is-found (b tt))
+    duty In w r b = λ k. settled (Holds In) Founds.Ciphertext (pos (h .waterline)) (pos (h .top)) (ap pos (sym (r .0))) (ap pos (sym (r .1))) (b tt) (λ u. is-found (b tt))
     duty (Const k) w r b = λ u. record { kind = refl; scale-is = λ t. absurd t; level-is = λ t. absurd t; bounds = λ t. absurd t }
     duty (Neg a) w r b = on-one (Neg a) a (λ s l. pos s) (λ s l. pos l) (ap pos (sym (r .0))) (ap pos (sym (r .1))) (λ c. b tt) (λ c u. is-found c)
     duty (Rot a n) w r b = on-one (Rot a n) a (λ s l. pos s) (λ s l. pos l) (ap pos (sym (r .0))) (ap pos (sym (r .1))) (λ c. b tt) (λ c u. is-found c)
     duty (Add a b) w r c = on-two (Add a b) a b (sum h)
         (on-sum NoReason (Holds (Add a b)) h (scale a) (level a) (scale b) (level b) (alike (level a) (level b) (r .0)) (alike (scale a) (scale b) (r .2))
-        (λ e f. settled (Holds (Add a b)) ciphertext (pos (scale a)) (pos (level a)) (ap pos (sym (r .3))) (ap pos (sym (r .1))) (c tt) (λ u. is-found (c tt))))
+        (λ e f. settled (Holds (Add a b)) Founds.Ciphertext (pos (scale a)) (pos (level a)) (ap pos (sym (r .3))) (ap pos (sym (r .1))) (c tt) (λ u. is-found (c tt))))
     duty (Mul a b) w r c = on-two (Mul a b) a b (product h)
         (on-product NoReason (Holds (Mul a b)) h (scale a) (level a) (scale b) (level b) (alike (level a) (level b) (r .0))
-        (λ e. settled (Holds (Mul a b)) ciphertext (pos (scale a + scale b)) (pos (level a)) (ap pos (sym (r .2))) (ap pos (sym (r .1))) (c tt) (λ u. is-found (c tt))))
+        (λ e. settled (Holds (Mul a b)) Founds.Ciphertext (pos (scale a + scale b)) (pos (level a)) (ap pos (sym (r .2))) (ap pos (sym (r .1))) (c tt) (λ u. is-found (c tt))))
     duty (Out a) w r b = on-one (Out a) a (λ s l. pos s) (λ s l. pos l) (ap pos (sym (r .0))) (ap pos (sym (r .1)))
         (λ c. subst₂ (Bounds h) (sym (r .0)) (sym (r .1)) c) (λ c u. absurd u)
-    duty (Enc a s e) w r b = λ v g. on-bare NoReason (Holds (Enc a s e)) (bounded h encoded (pos s) (pos e)) v (λ t. subst (λ (k : Kind). T (not (isConstant k))) (g .kind) t)
-        (settled (Holds (Enc a s e)) encoded (pos s) (pos e) (ap pos (sym (r .0))) (ap pos (sym (r .1))) (b tt)
+    duty (Enc a s e) w r b = λ v g. on-bare NoReason (Holds (Enc a s e)) (bounded h Founds.Encoded (pos s) (pos e)) v (λ t. subst (λ (k : Kind). T (not (isConstant k))) (g .kind) t)
+        (settled (Holds (Enc a s e)) Founds.Encoded (pos s) (pos e) (ap pos (sym (r .0))) (ap pos (sym (r .1))) (b tt)
         (λ u. record { kind = refl; scale-is = λ t. refl; level-is = λ t. refl; bounds = λ t. b tt }))
     duty (Rs a c) w r b = on-one (Rs a c) a (λ s l. pos s -ℤ pos (h .factor * c)) (λ s l. pos l -ℤ pos c)
         (left-over (scale a) (h .factor * c) (scale i) (r .0)) (left-over (level a) c (level i) (r .1)) (λ d. b tt) (λ d u. is-found d)

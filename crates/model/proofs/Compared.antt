@@ -19,7 +19,8 @@ use Rattle.model.specs.declared.Answer.the-variants.{Done, Level, Refuse
 use Rattle.model.specs.Files.{placeOf, wellFormed, File}
 use Rattle.model.specs.Machine.{Run, finished, stopped, run}
 use Rattle.model.specs.Services.{erase}
-use Rattle.model.specs.Refused.{Found, checkMachine, codeOf, sameNumbers, sameLine, sameHeader, compared, rulesAnswer, check}
+use Rattle.model.specs.declared.Found.{Found}
+use Rattle.model.specs.Refused.{checkMachine, codeOf, sameNumbers, sameLine, sameHeader, compared, rulesAnswer, check}
 use Rattle.model.specs.Demands.{Passed}
 use Rattle.model.proofs.Statements.Check.{OtherCircuit, other-header, other-lines, ByRules, Judges}
 use Rattle.model.proofs.Tests.{and-first, and-second, and-both, cond-cases, cond-true}

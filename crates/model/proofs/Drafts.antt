@@ -15,7 +15,8 @@ use Rattle.model.specs.declared.Kind.{Kind}
 use Rattle.model.specs.Files.{kindOf, kindAt, lineFormed, linesFormed}
 use Rattle.model.specs.Machine.{goes, Run, finished, stopped, orAbsent, operand, step, run}
 use Rattle.model.specs.Services.{kept, madeFrom, fateOf, renumbered, erase, origins, keptLines}
-use Rattle.model.specs.Refused.{Found, checkMachine}
+use Rattle.model.specs.declared.Found.{Found}
+use Rattle.model.specs.Refused.{checkMachine}
 use Rattle.model.proofs.Lists.{length-snoc, found-after, found-last, found-is}
 use Rattle.model.proofs.Runs.{run-snoc}
 use Rattle.model.proofs.Appended.{erase-kept, origins-kept, lines-kept, erase-struck, origins-struck, lines-struck, formed-snoc}

@@ -22,7 +22,9 @@ use Rattle.model.specs.Rules.{Bounds}
 use Rattle.model.specs.Machines as machines
 use Rattle.model.specs.Machines.{Vector, Handed, Reason, levelsDiffer, scalesDiffer, remainder, belowWaterline, aboveModulus, Holding, scaled, slotwise, rotated, timesTwoTo, overTwoTo, noRemainder, stopIf, holds, onScaled, scaledSum, scaledProduct, rescaled, plainMachine, scaleMachine}
 use Rattle.model.specs.Services.{erase, origins, keptLines}
-use Rattle.model.specs.Refused.{Found, encoded, ciphertext, bounded, onBare, onCiphertext, onPair, sum, product, checkMachine}
+use Rattle.model.specs.declared.Found.{Found}
+use Rattle.model.specs.declared.Found.the-variants as Founds
+use Rattle.model.specs.Refused.{bounded, onBare, onCiphertext, onPair, sum, product, checkMachine}
 use Rattle.model.specs.Demands.{ExactLine, Exact}
 use Rattle.model.proofs.Lists.{found-at, All2, length2, beside, All3, nil3, length3, between}
 use Rattle.model.proofs.Kept.{Follows, Kept, run-kept, Finished, finish}
@@ -64,9 +66,9 @@ module _ (H : Handed) (h : Header) where
     pub long : Long w
 
   abbrev pub Agree : Found → Holding → Vector → Type 0
-  Agree Found.bare y w = Same y w
-  Agree (encoded s l) y w = Times s l y w
-  Agree (ciphertext s l) y w = Times s l y w
+  Agree Founds.Bare y w = Same y w
+  Agree (Founds.Encoded s l) y w = Times s l y w
+  Agree (Founds.Ciphertext s l) y w = Times s l y w
 
   -- where the check goes on, so does the scale machine, and both agree with the plain machine's w
   abbrev InStep : Step Found ℕ → Step Holding Reason → Vector → Type 0
@@ -86,8 +88,8 @@ module _ (H : Handed) (h : Header) where
       (agree (positive s) (positive l) (scaled (positive s) (positive l) v) w (record { held = ap (scaled (positive s) (positive l)) e; long = long; bounds = tests-bound h s l low high })))
       tt tt
 
-  ciphertext-bounded : (s l : ℤ) (v w : Vector) → Long w → v ≡ timesTwoTo (positive s) w → InStep (bounded h ciphertext s l) (holds h s l v) w
-  ciphertext-bounded = both-bounded ciphertext (λ s l y w t. t)
+  ciphertext-bounded : (s l : ℤ) (v w : Vector) → Long w → v ≡ timesTwoTo (positive s) w → InStep (bounded h Founds.Ciphertext s l) (holds h s l v) w
+  ciphertext-bounded = both-bounded Founds.Ciphertext (λ s l y w t. t)
 
   -- ---- operands
   module _ (f : ℕ → ℕ → Step Found ℕ) (g : ℕ → ℕ → Vector → Step Holding Reason) (k : Vector → Vector) (each : (s l : ℕ) (w : Vector) → Long w → InStep (f s l) (g s l (timesTwoTo s w)) (k w)) where
@@ -95,9 +97,9 @@ module _ (H : Handed) (h : Header) where
     on-times s l y w a = subst (λ (y : Holding). InStep (f s l) (onScaled g y) (k w)) (sym (a .held)) (each s l w (a .long))
 
     on-ciphertext : (x : Found) (y : Holding) (w : Vector) → Agree x y w → InStep (onCiphertext f x) (onScaled g y) (k w)
-    on-ciphertext Found.bare y w a = tt
-    on-ciphertext (encoded s l) y w a = tt
-    on-ciphertext (ciphertext s l) y w a = on-times s l y w a
+    on-ciphertext Founds.Bare y w a = tt
+    on-ciphertext (Founds.Encoded s l) y w a = tt
+    on-ciphertext (Founds.Ciphertext s l) y w a = on-times s l y w a
 
   module _ (f : ℕ → ℕ → ℕ → ℕ → Step Found ℕ) (g : ℕ → ℕ → Vector → ℕ → ℕ → Vector → Step Holding Reason) (k : Vector → Vector → Vector)
       (each : (s l : ℕ) (w : Vector) → Long w → (s′ l′ : ℕ) (w′ : Vector) → Long w′ → InStep (f s l s′ l′) (g s l (timesTwoTo s w) s′ l′ (timesTwoTo s′ w′)) (k w w′)) where
@@ -107,19 +109,19 @@ module _ (H : Handed) (h : Header) where
         (on-times (f s l) (g s l (timesTwoTo s w)) (k w) (each s l w (a .long)) s′ l′ y′ w′ a′)
 
     on-pair : (x : Found) (y : Holding) (w : Vector) → Agree x y w → (x′ : Found) (y′ : Holding) (w′ : Vector) → Agree x′ y′ w′ → InStep (onPair f x x′) (onScaled (λ s l v. onScaled (g s l v) y′) y) (k w w′)
-    on-pair Found.bare y w a x′ y′ w′ a′ = tt
-    on-pair (encoded s l) y w a Found.bare y′ w′ a′ = tt
-    on-pair (encoded s l) y w a (encoded s′ l′) y′ w′ a′ = tt
-    on-pair (encoded s l) y w a (ciphertext s′ l′) y′ w′ a′ = on-two s l y w a s′ l′ y′ w′ a′
-    on-pair (ciphertext s l) y w a Found.bare y′ w′ a′ = tt
-    on-pair (ciphertext s l) y w a (encoded s′ l′) y′ w′ a′ = on-two s l y w a s′ l′ y′ w′ a′
-    on-pair (ciphertext s l) y w a (ciphertext s′ l′) y′ w′ a′ = on-two s l y w a s′ l′ y′ w′ a′
+    on-pair Founds.Bare y w a x′ y′ w′ a′ = tt
+    on-pair (Founds.Encoded s l) y w a Founds.Bare y′ w′ a′ = tt
+    on-pair (Founds.Encoded s l) y w a (Founds.Encoded s′ l′) y′ w′ a′ = tt
+    on-pair (Founds.Encoded s l) y w a (Founds.Ciphertext s′ l′) y′ w′ a′ = on-two s l y w a s′ l′ y′ w′ a′
+    on-pair (Founds.Ciphertext s l) y w a Founds.Bare y′ w′ a′ = tt
+    on-pair (Founds.Ciphertext s l) y w a (Founds.Encoded s′ l′) y′ w′ a′ = on-two s l y w a s′ l′ y′ w′ a′
+    on-pair (Founds.Ciphertext s l) y w a (Founds.Ciphertext s′ l′) y′ w′ a′ = on-two s l y w a s′ l′ y′ w′ a′
 
   -- a word on a ciphertext that makes the scale σ, the level τ and the vector φ v, where the plain machine makes ψ w
   on-one : (σ τ : ℕ → ℕ → ℤ) (φ ψ : Vector → Vector) → ((w : Vector) → Long w → Long (ψ w)) → ((s l : ℕ) (w : Vector) → φ (timesTwoTo s w) ≡ timesTwoTo (positive (σ s l)) (ψ w))
-      → (x : Found) (y : Holding) (w : Vector) → Agree x y w → InStep (onCiphertext (λ s l. bounded h ciphertext (σ s l) (τ s l)) x) (onScaled (λ s l v. holds h (σ s l) (τ s l) (φ v)) y) (ψ w)
+      → (x : Found) (y : Holding) (w : Vector) → Agree x y w → InStep (onCiphertext (λ s l. bounded h Founds.Ciphertext (σ s l) (τ s l)) x) (onScaled (λ s l v. holds h (σ s l) (τ s l) (φ v)) y) (ψ w)
   on-one σ τ φ ψ long e =
-      on-ciphertext (λ s l. bounded h ciphertext (σ s l) (τ s l)) (λ s l v. holds h (σ s l) (τ s l) (φ v)) ψ
+      on-ciphertext (λ s l. bounded h Founds.Ciphertext (σ s l) (τ s l)) (λ s l v. holds h (σ s l) (τ s l) (φ v)) ψ
       (λ s l w n. ciphertext-bounded (σ s l) (τ s l) (φ (timesTwoTo s w)) (ψ w) (long w n) (e s l w))
 
   -- ---- the words
@@ -134,18 +136,18 @@ module _ (H : Handed) (h : Header) where
       same-test (eqb l l′) 7 levelsDiffer _ _ _ (λ p.
       ciphertext-bounded (pos (s + s′)) (pos l) _ (slotwise _*ℤ_ w w′) (length-slotwise _*ℤ_ w w′ n n′) (times-mul s s′ w w′))
 
-  encoded-kept : (s e : ℕ) (x : Found) (y : Holding) (w : Vector) → Agree x y w → InStep (onBare (bounded h encoded (pos s) (pos e)) x) (machines.onBare (λ v. holds h (pos s) (pos e) (timesTwoTo s v)) y) w
-  encoded-kept s e Found.bare y w a =
-      subst (λ (y : Holding). InStep (bounded h encoded (pos s) (pos e)) (machines.onBare (λ v. holds h (pos s) (pos e) (timesTwoTo s v)) y) w) (sym (a .held))
-      (both-bounded encoded (λ s l y w t. t) (pos s) (pos e) (timesTwoTo s w) w (a .long) refl)
-  encoded-kept s e (encoded s′ l′) y w a = tt
-  encoded-kept s e (ciphertext s′ l′) y w a = tt
+  encoded-kept : (s e : ℕ) (x : Found) (y : Holding) (w : Vector) → Agree x y w → InStep (onBare (bounded h Founds.Encoded (pos s) (pos e)) x) (machines.onBare (λ v. holds h (pos s) (pos e) (timesTwoTo s v)) y) w
+  encoded-kept s e Founds.Bare y w a =
+      subst (λ (y : Holding). InStep (bounded h Founds.Encoded (pos s) (pos e)) (machines.onBare (λ v. holds h (pos s) (pos e) (timesTwoTo s v)) y) w) (sym (a .held))
+      (both-bounded Founds.Encoded (λ s l y w t. t) (pos s) (pos e) (timesTwoTo s w) w (a .long) refl)
+  encoded-kept s e (Founds.Encoded s′ l′) y w a = tt
+  encoded-kept s e (Founds.Ciphertext s′ l′) y w a = tt
 
   -- above the waterline F·c is no more than the scale, so nothing remains
-  rescaled-kept : (c s l : ℕ) (w : Vector) → Long w → InStep (bounded h ciphertext (pos s -ℤ pos (h .factor * c)) (pos l -ℤ pos c)) (rescaled h c s l (timesTwoTo s w)) w
+  rescaled-kept : (c s l : ℕ) (w : Vector) → Long w → InStep (bounded h Founds.Ciphertext (pos s -ℤ pos (h .factor * c)) (pos l -ℤ pos c)) (rescaled h c s l (timesTwoTo s w)) w
   rescaled-kept c s l w n =
-      bounded-cases h (λ r. InStep r (rescaled h c s l (timesTwoTo s w)) w) ciphertext (pos s -ℤ pos k) (pos l -ℤ pos c)
-      (λ low high. subst (λ (t : Step Holding Reason). InStep (goes (ciphertext (positive (pos s -ℤ pos k)) (positive (pos l -ℤ pos c)))) t w) (sym (goes-on low high))
+      bounded-cases h (λ r. InStep r (rescaled h c s l (timesTwoTo s w)) w) Founds.Ciphertext (pos s -ℤ pos k) (pos l -ℤ pos c)
+      (λ low high. subst (λ (t : Step Holding Reason). InStep (goes (Founds.Ciphertext (positive (pos s -ℤ pos k)) (positive (pos l -ℤ pos c)))) t w) (sym (goes-on low high))
       (record { held = refl; long = n; bounds = tests-bound h (pos s -ℤ pos k) (pos l -ℤ pos c) low high }))
       tt tt
     where
@@ -180,7 +182,7 @@ module _ (H : Handed) (h : Header) where
         mul = on-pair (product h) (scaledProduct h) (slotwise _*ℤ_) product-kept;
         out = on-one (λ s l. pos s) (λ s l. pos l) (λ v. v) (λ w. w) (λ w n. n) (λ s l w. refl);
         enc = encoded-kept;
-        rs = λ c. on-ciphertext (λ s l. bounded h ciphertext (pos s -ℤ pos (h .factor * c)) (pos l -ℤ pos c)) (rescaled h c) (λ w. w) (rescaled-kept c);
+        rs = λ c. on-ciphertext (λ s l. bounded h Founds.Ciphertext (pos s -ℤ pos (h .factor * c)) (pos l -ℤ pos c)) (rescaled h c) (λ w. w) (rescaled-kept c);
         ms = λ c. on-one (λ s l. pos s) (λ s l. pos l -ℤ pos c) (λ v. v) (λ w. w) (λ w n. n) (λ s l w. refl);
         us = λ b. on-one (λ s l. pos (s + b)) (λ s l. pos l) (timesTwoTo b) (λ w. w) (λ w n. n) (λ s l w. times-times s b w);
       }
@@ -194,39 +196,39 @@ agreeing H h s e =
 
 -- ---- only a constant line is bare
 abbrev pub isBare : Found → Bool
-isBare Found.bare = true
-isBare (encoded s l) = false
-isBare (ciphertext s l) = false
+isBare Founds.Bare = true
+isBare (Founds.Encoded s l) = false
+isBare (Founds.Ciphertext s l) = false
 
 abbrev GivesScale : Step Found ℕ → Type 0
 GivesScale r = Gives (λ found. isBare found ≡ false) r
 
 on-ciphertext-scale : (f : ℕ → ℕ → Step Found ℕ) → ((s l : ℕ) → GivesScale (f s l)) → (x : Found) → GivesScale (onCiphertext f x)
-on-ciphertext-scale f g Found.bare = tt
-on-ciphertext-scale f g (encoded s l) = tt
-on-ciphertext-scale f g (ciphertext s l) = g s l
+on-ciphertext-scale f g Founds.Bare = tt
+on-ciphertext-scale f g (Founds.Encoded s l) = tt
+on-ciphertext-scale f g (Founds.Ciphertext s l) = g s l
 
 on-pair-scale : (f : ℕ → ℕ → ℕ → ℕ → Step Found ℕ) → ((s l s′ l′ : ℕ) → GivesScale (f s l s′ l′)) → (x y : Found) → GivesScale (onPair f x y)
-on-pair-scale f g Found.bare y = tt
-on-pair-scale f g (encoded s l) y = on-ciphertext-scale (f s l) (g s l) y
-on-pair-scale f g (ciphertext s l) Found.bare = tt
-on-pair-scale f g (ciphertext s l) (encoded s′ l′) = g s l s′ l′
-on-pair-scale f g (ciphertext s l) (ciphertext s′ l′) = g s l s′ l′
+on-pair-scale f g Founds.Bare y = tt
+on-pair-scale f g (Founds.Encoded s l) y = on-ciphertext-scale (f s l) (g s l) y
+on-pair-scale f g (Founds.Ciphertext s l) Founds.Bare = tt
+on-pair-scale f g (Founds.Ciphertext s l) (Founds.Encoded s′ l′) = g s l s′ l′
+on-pair-scale f g (Founds.Ciphertext s l) (Founds.Ciphertext s′ l′) = g s l s′ l′
 
 on-bare-scale : (r : Step Found ℕ) → GivesScale r → (x : Found) → GivesScale (onBare r x)
-on-bare-scale r g Found.bare = g
-on-bare-scale r g (encoded s l) = tt
-on-bare-scale r g (ciphertext s l) = tt
+on-bare-scale r g Founds.Bare = g
+on-bare-scale r g (Founds.Encoded s l) = tt
+on-bare-scale r g (Founds.Ciphertext s l) = tt
 
 module _ (h : Header) where
   bounded-scale : (found : ℕ → ℕ → Found) → ((s l : ℕ) → isBare (found s l) ≡ false) → (s l : ℤ) → GivesScale (bounded h found s l)
   bounded-scale found e s l = bounded-cases h GivesScale found s l (λ t u. e (positive s) (positive l)) tt tt
 
-  ciphertext-scale : (s l : ℤ) → GivesScale (bounded h ciphertext s l)
-  ciphertext-scale = bounded-scale ciphertext (λ s l. refl)
+  ciphertext-scale : (s l : ℤ) → GivesScale (bounded h Founds.Ciphertext s l)
+  ciphertext-scale = bounded-scale Founds.Ciphertext (λ s l. refl)
 
   module _ (held : List Found) where
-    one-scale : (a : ℕ) (σ τ : ℕ → ℕ → ℤ) → GivesScale (andThen (operand (checkMachine h) held a) (onCiphertext (λ s l. bounded h ciphertext (σ s l) (τ s l))))
+    one-scale : (a : ℕ) (σ τ : ℕ → ℕ → ℤ) → GivesScale (andThen (operand (checkMachine h) held a) (onCiphertext (λ s l. bounded h Founds.Ciphertext (σ s l) (τ s l))))
     one-scale a σ τ = then-gives _ (operand (checkMachine h) held a) _ (on-ciphertext-scale _ (λ s l. ciphertext-scale (σ s l) (τ s l)))
 
     pair-scale : (a b : ℕ) (f : ℕ → ℕ → ℕ → ℕ → Step Found ℕ) → ((s l s′ l′ : ℕ) → GivesScale (f s l s′ l′)) → GivesScale (andThen (operand (checkMachine h) held a) (λ x. andThen (operand (checkMachine h) held b) (onPair f x)))
@@ -240,7 +242,7 @@ module _ (h : Header) where
   bare-by-word (Add a b) ins held = pair-scale held a b (sum h) (λ s l s′ l′. sum-cases h GivesScale s l s′ l′ (λ e e′. ciphertext-scale (pos s) (pos l)) (λ e. tt) (λ e. tt))
   bare-by-word (Mul a b) ins held = pair-scale held a b (product h) (λ s l s′ l′. product-cases h GivesScale s l s′ l′ (λ e. ciphertext-scale (pos (s + s′)) (pos l)) (λ e. tt))
   bare-by-word (Out a) ins held = one-scale held a (λ s l. pos s) (λ s l. pos l)
-  bare-by-word (Enc a s e) ins held = then-gives _ (operand (checkMachine h) held a) _ (on-bare-scale _ (bounded-scale encoded (λ s l. refl) (pos s) (pos e)))
+  bare-by-word (Enc a s e) ins held = then-gives _ (operand (checkMachine h) held a) _ (on-bare-scale _ (bounded-scale Founds.Encoded (λ s l. refl) (pos s) (pos e)))
   bare-by-word (Rs a c) ins held = one-scale held a (λ s l. pos s -ℤ pos (h .factor * c)) (λ s l. pos l -ℤ pos c)
   bare-by-word (Ms a c) ins held = one-scale held a (λ s l. pos s) (λ s l. pos l -ℤ pos c)
   bare-by-word (Us a b) ins held = one-scale held a (λ s l. pos (s + b)) (λ s l. pos l)
@@ -259,12 +261,12 @@ module _ (H : Handed) (h : Header) where
       subst (Bounds h n) levels (subst (λ (k : ℕ). Bounds h k l) scales (a .bounds))
 
   agree-bounds : (x : Found) (n m : ℕ) (v w : Vector) → Agree H h x (scaled n m v) w → Bounds h n m
-  agree-bounds Found.bare n m v w a = absurd (never (a .held))
+  agree-bounds Founds.Bare n m v w a = absurd (never (a .held))
     where
       never : scaled n m v ≡ Holding.bare w → ⊥
       never e = let z : _≡_ {A = ℕ} 0 1 = cc in omega arith
-  agree-bounds (encoded s l) n m v w a = times-bounds a
-  agree-bounds (ciphertext s l) n m v w a = times-bounds a
+  agree-bounds (Founds.Encoded s l) n m v w a = times-bounds a
+  agree-bounds (Founds.Ciphertext s l) n m v w a = times-bounds a
 
   module _ (schedule : List Line) (held : List Holding) (numbers : List Vector) (i j : ℕ) (kept : getElem? (keptLines schedule) j ≡ some i)
       {y : Holding} {w : Vector} (there : getElem? held i ≡ some y) (plain : getElem? numbers j ≡ some w) where
@@ -273,9 +275,9 @@ module _ (H : Handed) (h : Header) where
         record { line = i; scale = s; level = l; vector = w; kept = kept; long = a .long; plain = plain; exact = there ∙ ap some (a .held) }
 
     agree-line : (x : Found) → T (not (isBare x)) → Agree H h x y w → ExactLine (H .slots) schedule held numbers j
-    agree-line Found.bare t a = absurd t
-    agree-line (encoded s l) t a = times-line s l a
-    agree-line (ciphertext s l) t a = times-line s l a
+    agree-line Founds.Bare t a = absurd t
+    agree-line (Founds.Encoded s l) t a = times-line s l a
+    agree-line (Founds.Ciphertext s l) t a = times-line s l a
 
   -- found, held, passed: what the check finds, the scale machine holds and the plain machine, passing through the struck lines, holds
   module _ (s : List Line) {found : List Found} {held : List Holding} {passed : List Vector} (numbers : List Vector)

@@ -12,7 +12,9 @@ use Rattle.model.specs.declared.Line.{Line}
 use Rattle.model.specs.Scales.{reserve, withTop}
 use Rattle.model.specs.Machine.{Step, goes, finished, run}
 use Rattle.model.specs.declared.Placement.{Placement}
-use Rattle.model.specs.Plan.{Best, smaller, atWaterline, placeInput, placeAt, placeTimesConstant, placeConstantTimes, placeProduct, productAt, placed, onCiphertext, onReserves, bestMachine}
+use Rattle.model.specs.declared.Best.{Best}
+use Rattle.model.specs.declared.Best.the-variants as Bests
+use Rattle.model.specs.Plan.{smaller, atWaterline, placeInput, placeAt, placeTimesConstant, placeConstantTimes, placeProduct, productAt, placed, onCiphertext, onReserves, bestMachine}
 use Rattle.model.proofs.Lists.{nil3}
 use Rattle.model.proofs.Kept.{Follows, Kept, run-kept, Finished, finish, idle}
 use Rattle.model.proofs.Floor.{floor-top}
@@ -25,38 +27,38 @@ module _ (h : Header) (L : ℕ) (higher : h .top ≤ L) (F⁺ : zero < h .factor
 
   -- a line's best reserve at h's top level, and at L
   abbrev pub More : Best → Best → Unit {0} → Type 0
-  More Best.constant Best.constant u = Unit {0}
-  More Best.constant (Best.ciphertext q) u = ⊥
-  More (Best.ciphertext p) Best.constant u = ⊥
-  More (Best.ciphertext p) (Best.ciphertext q) u = Ordered (p .reserve) (q .reserve)
+  More Bests.Constant Bests.Constant u = Unit {0}
+  More Bests.Constant (Bests.Ciphertext q) u = ⊥
+  More (Bests.Ciphertext p) Bests.Constant u = ⊥
+  More (Bests.Ciphertext p) (Bests.Ciphertext q) u = Ordered (p .reserve) (q .reserve)
 
   abbrev Keeps : Step Best ℕ → Step Best ℕ → Type 0
   Keeps s t = Follows {E = ℕ} {D = ℕ} {G = Unit {0}} More s t (goes tt)
 
   both-placed : (p q : Placement) → p .reserve ≤ℤ q .reserve → Keeps (placed h p) (placed (withTop h L) q)
   both-placed p q o = placed-elim h p (λ s. Keeps s (placed (withTop h L) q)) tt
-      (λ a. subst (Keeps (goes (Best.ciphertext p))) (sym (placed-goes (withTop h L) q (omega (signed, a, o, floor-top h L)))) (omega (signed, a), o))
+      (λ a. subst (Keeps (goes (Bests.Ciphertext p))) (sym (placed-goes (withTop h L) q (omega (signed, a, o, floor-top h L)))) (omega (signed, a), o))
 
   on-ciphertext : (f g : Placement → Step Best ℕ) → ((p q : Placement) → Ordered (p .reserve) (q .reserve) → Keeps (f p) (g q))
       → (x y : Best) (z : Unit {0}) → More x y z → Keeps (onCiphertext f x) (onCiphertext g y)
-  on-ciphertext f g k Best.constant Best.constant z r = tt
-  on-ciphertext f g k Best.constant (Best.ciphertext q) z r = absurd r
-  on-ciphertext f g k (Best.ciphertext p) Best.constant z r = absurd r
-  on-ciphertext f g k (Best.ciphertext p) (Best.ciphertext q) z r = k p q r
+  on-ciphertext f g k Bests.Constant Bests.Constant z r = tt
+  on-ciphertext f g k Bests.Constant (Bests.Ciphertext q) z r = absurd r
+  on-ciphertext f g k (Bests.Ciphertext p) Bests.Constant z r = absurd r
+  on-ciphertext f g k (Bests.Ciphertext p) (Bests.Ciphertext q) z r = k p q r
 
   module _ (both both′ : ℤ → ℤ → Step Best ℕ) (left left′ right right′ : ℤ → Step Best ℕ)
       (k : (r s r′ s′ : ℤ) → Ordered r s → Ordered r′ s′ → Keeps (both r r′) (both′ s s′)) (i : (r s : ℤ) → Ordered r s → Keeps (left r) (left′ s)) (j : (r s : ℤ) → Ordered r s → Keeps (right r) (right′ s)) where
     on-pair : (x y : Best) (z : Unit {0}) → More x y z → (x′ y′ : Best) (z′ : Unit {0}) → More x′ y′ z′ → Keeps (onReserves both left right x x′) (onReserves both′ left′ right′ y y′)
-    on-pair Best.constant Best.constant z r Best.constant Best.constant z′ r′ = tt
-    on-pair Best.constant Best.constant z r Best.constant (Best.ciphertext q) z′ r′ = absurd r′
-    on-pair Best.constant Best.constant z r (Best.ciphertext p) Best.constant z′ r′ = absurd r′
-    on-pair Best.constant Best.constant z r (Best.ciphertext p) (Best.ciphertext q) z′ r′ = j (p .reserve) (q .reserve) r′
-    on-pair Best.constant (Best.ciphertext q) z r x′ y′ z′ r′ = absurd r
-    on-pair (Best.ciphertext p) Best.constant z r x′ y′ z′ r′ = absurd r
-    on-pair (Best.ciphertext p) (Best.ciphertext q) z r Best.constant Best.constant z′ r′ = i (p .reserve) (q .reserve) r
-    on-pair (Best.ciphertext p) (Best.ciphertext q) z r Best.constant (Best.ciphertext q′) z′ r′ = absurd r′
-    on-pair (Best.ciphertext p) (Best.ciphertext q) z r (Best.ciphertext p′) Best.constant z′ r′ = absurd r′
-    on-pair (Best.ciphertext p) (Best.ciphertext q) z r (Best.ciphertext p′) (Best.ciphertext q′) z′ r′ = k (p .reserve) (q .reserve) (p′ .reserve) (q′ .reserve) r r′
+    on-pair Bests.Constant Bests.Constant z r Bests.Constant Bests.Constant z′ r′ = tt
+    on-pair Bests.Constant Bests.Constant z r Bests.Constant (Bests.Ciphertext q) z′ r′ = absurd r′
+    on-pair Bests.Constant Bests.Constant z r (Bests.Ciphertext p) Bests.Constant z′ r′ = absurd r′
+    on-pair Bests.Constant Bests.Constant z r (Bests.Ciphertext p) (Bests.Ciphertext q) z′ r′ = j (p .reserve) (q .reserve) r′
+    on-pair Bests.Constant (Bests.Ciphertext q) z r x′ y′ z′ r′ = absurd r
+    on-pair (Bests.Ciphertext p) Bests.Constant z r x′ y′ z′ r′ = absurd r
+    on-pair (Bests.Ciphertext p) (Bests.Ciphertext q) z r Bests.Constant Bests.Constant z′ r′ = i (p .reserve) (q .reserve) r
+    on-pair (Bests.Ciphertext p) (Bests.Ciphertext q) z r Bests.Constant (Bests.Ciphertext q′) z′ r′ = absurd r′
+    on-pair (Bests.Ciphertext p) (Bests.Ciphertext q) z r (Bests.Ciphertext p′) Bests.Constant z′ r′ = absurd r′
+    on-pair (Bests.Ciphertext p) (Bests.Ciphertext q) z r (Bests.Ciphertext p′) (Bests.Ciphertext q′) z′ r′ = k (p .reserve) (q .reserve) (p′ .reserve) (q′ .reserve) r r′
 
   -- the formula of a product rises with both reserves, and so does its greatest value
   product-rises : (r s r′ s′ : ℤ) (l : ℕ) → r ≤ℤ s → r′ ≤ℤ s′ → productAt h r r′ l ≤ℤ productAt h s s′ l

@@ -11,7 +11,8 @@ use Rattle.model.specs.declared.Answer.the-variants.{Done, Level, Refuse
 use Rattle.model.specs.Scales.{withTop}
 use Rattle.model.specs.Files.{File, placeOf}
 use Rattle.model.specs.Machine.{Run, finished, stopped, run}
-use Rattle.model.specs.Plan.{Best, bestMachine}
+use Rattle.model.specs.declared.Best.{Best}
+use Rattle.model.specs.Plan.{bestMachine}
 use Rattle.model.specs.Services.{tryLevels, leastLevel}
 
 module _ (h : Header) (lines : List Line) where

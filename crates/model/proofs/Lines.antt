@@ -19,10 +19,14 @@ use Rattle.model.specs.declared.Kind.the-variants.{Ciphertext, Constant,
 use Rattle.model.specs.Files.{kindOf, kindAt, isUsable, isPair, inRange, lineFormed}
 use Rattle.model.specs.Machine.{Step, goes, andThen, operand, step}
 use Rattle.model.specs.declared.Placement.{Placement}
-use Rattle.model.specs.Plan.{Draft, Best, atWaterline, supply, operandTo, planOne, planTwo, placeInput, placeAt}
+use Rattle.model.specs.declared.Best.{Best}
+use Rattle.model.specs.declared.Best.the-variants as Bests
+use Rattle.model.specs.Plan.{Draft, atWaterline, supply, operandTo, planOne, planTwo, placeInput, placeAt}
 use Rattle.model.specs.Services.{kept, fateOf, renamed, erase, origins}
 use Rattle.model.specs.Refused as Refused
-use Rattle.model.specs.Refused.{Found, bounded, onPair, checkMachine}
+use Rattle.model.specs.declared.Found.{Found}
+use Rattle.model.specs.declared.Found.the-variants as Founds
+use Rattle.model.specs.Refused.{bounded, onPair, checkMachine}
 use Rattle.model.proofs.Tests.{and-both, HeaderFacts}
 use Rattle.model.proofs.Lists.{found-at, found-is}
 use Rattle.model.proofs.Bounded.{bounded-goes}
@@ -58,21 +62,21 @@ module _ (h : Header) (H : HeaderFacts h) where
   -- ---- a line with two operands
   -- one of the two is a ciphertext
   abbrev pub Pair : Best → Best → Type 0
-  Pair Best.constant Best.constant = ⊥
-  Pair Best.constant (Best.ciphertext q) = Unit {0}
-  Pair (Best.ciphertext p) b = Unit {0}
+  Pair Bests.Constant Bests.Constant = ⊥
+  Pair Bests.Constant (Bests.Ciphertext q) = Unit {0}
+  Pair (Bests.Ciphertext p) b = Unit {0}
 
   pair-kinds : (b b′ : Best) → Pair b b′ → T (isUsable (suppliedKind h H b) && (isUsable (suppliedKind h H b′) && true) && isPair Schedule (suppliedKind h H b) (suppliedKind h H b′))
-  pair-kinds Best.constant Best.constant x = absurd x
-  pair-kinds Best.constant (Best.ciphertext q) x = tt
-  pair-kinds (Best.ciphertext p) Best.constant x = tt
-  pair-kinds (Best.ciphertext p) (Best.ciphertext q) x = tt
+  pair-kinds Bests.Constant Bests.Constant x = absurd x
+  pair-kinds Bests.Constant (Bests.Ciphertext q) x = tt
+  pair-kinds (Bests.Ciphertext p) Bests.Constant x = tt
+  pair-kinds (Bests.Ciphertext p) (Bests.Ciphertext q) x = tt
 
   pair-found : (f : ℕ → ℕ → ℕ → ℕ → Step Found ℕ) (b b′ : Best) (r r′ : ℤ) (l : ℕ) → Pair b b′ → onPair f (suppliedFound h H b r l) (suppliedFound h H b′ r′ l) ≡ f (scaleAt h H r l) l (scaleAt h H r′ l) l
-  pair-found f Best.constant Best.constant r r′ l x = absurd x
-  pair-found f Best.constant (Best.ciphertext q) r r′ l x = refl
-  pair-found f (Best.ciphertext p) Best.constant r r′ l x = refl
-  pair-found f (Best.ciphertext p) (Best.ciphertext q) r r′ l x = refl
+  pair-found f Bests.Constant Bests.Constant r r′ l x = absurd x
+  pair-found f Bests.Constant (Bests.Ciphertext q) r r′ l x = refl
+  pair-found f (Bests.Ciphertext p) Bests.Constant r r′ l x = refl
+  pair-found f (Bests.Ciphertext p) (Bests.Ciphertext q) r r′ l x = refl
 
   -- what the check makes of two operands
   on-two : {lines : List Line} {i j : ℕ} {f g : Found} {k m : Kind} {o q : ℕ} (r : ℕ → ℕ → ℕ → ℕ → Step Found ℕ) → Stands h lines i f k o → Stands h lines j g m q
@@ -91,7 +95,7 @@ module _ (h : Header) (H : HeaderFacts h) where
     d₀ a ls = record { lines = ls; number = getD numbers a 0 }
 
     -- an operand brought to where the line is done
-    brought : (a : ℕ) (b : Best) (ls : List Line) (p : Placement) (r : ℤ) → getD full a Best.constant ≡ b → ValidBest h H b → Valid h H r (p .level) → Reaches h H b r (p .level)
+    brought : (a : ℕ) (b : Best) (ls : List Line) (p : Placement) (r : ℤ) → getD full a Bests.Constant ≡ b → ValidBest h H b → Valid h H r (p .level) → Reaches h H b r (p .level)
         → Sound h ls done numbers → Stands h ls (getD numbers a 0) (foundFor h H b) (kindFor h H b) a
         → Grown h 3 ls (operandTo h full numbers p r a ls .lines) done numbers (operandTo h full numbers p r a ls .number) (suppliedFound h H b r (p .level)) (suppliedKind h H b) a
     brought a b ls p r e u v x s t =
@@ -106,10 +110,10 @@ module _ (h : Header) (H : HeaderFacts h) where
         → ((i j : ℕ) → fateOf (word i j) ≡ kept) → ((g : ℕ → ℕ) (i j : ℕ) → renamed g (word i j) ≡ word (g i) (g j)) → ((i j : ℕ) → kindOf (word i j) ≡ Ciphertext)
         → ((n i j : ℕ) (found : List Found) → step (checkMachine h) n found (word i j) ≡ andThen (operand (checkMachine h) found i) (λ x. andThen (operand (checkMachine h) found j) (onPair f x)))
         → ((ls : List Line) (i j : ℕ) → lineFormed Schedule h ls (word i j) ≡ (true && (isUsable (kindAt ls i) && (isUsable (kindAt ls j) && true) && isPair Schedule (kindAt ls i) (kindAt ls j))))
-        → getD full a Best.constant ≡ u → getD full b Best.constant ≡ v → Ready lines numbers a u → Ready lines numbers b v → Pair u v → Meets h H p u v
-        → f (scaleAt h H (p .first) (p .level)) (p .level) (scaleAt h H (p .second) (p .level)) (p .level) ≡ goes (Found.ciphertext (scaleAt h H (p .reserve) (p .level)) (p .level))
+        → getD full a Bests.Constant ≡ u → getD full b Bests.Constant ≡ v → Ready lines numbers a u → Ready lines numbers b v → Pair u v → Meets h H p u v
+        → f (scaleAt h H (p .first) (p .level)) (p .level) (scaleAt h H (p .second) (p .level)) (p .level) ≡ goes (Founds.Ciphertext (scaleAt h H (p .reserve) (p .level)) (p .level))
         → Grown h 7 lines (planTwo h full numbers p word a b lines .lines) (done ++ (word a b ∷ [])) (numbers ++ (planTwo h full numbers p word a b lines .number ∷ [])) (planTwo h full numbers p word a b lines .number)
-        (Found.ciphertext (scaleAt h H (p .reserve) (p .level)) (p .level)) Ciphertext (length done)
+        (Founds.Ciphertext (scaleAt h H (p .reserve) (p .level)) (p .level)) Ciphertext (length done)
     two-grown word f a b u v p fate rename kind steps forms e e′ x y z m goes-on =
         subst (λ (k : Kind). Grown h 7 lines (E .lines ++ (word (D .number) (E .number) ∷ [])) (done ++ (word a b ∷ [])) (numbers ++ (length (E .lines) ∷ [])) (length (E .lines)) result k (length done)) (kind (D .number) (E .number))
         (then h g₁ (then h g₂ (emit-kept h (word (D .number) (E .number)) (word a b) result (g₂ .sound) (fate _ _)
@@ -118,7 +122,7 @@ module _ (h : Header) (H : HeaderFacts h) where
         (rename _ _ _ ∙ ap₂ word (names first) (names second)))))
       where
         result : Found
-        result = Found.ciphertext (scaleAt h H (p .reserve) (p .level)) (p .level)
+        result = Founds.Ciphertext (scaleAt h H (p .reserve) (p .level)) (p .level)
 
         D : Draft
         D = operandTo h full numbers p (p .first) a lines
@@ -140,44 +144,44 @@ module _ (h : Header) (H : HeaderFacts h) where
 
     -- ---- a line with one operand, a ciphertext: neither its scale nor its level changes
     pub one-grown : (word : ℕ → Line) (a : ℕ) (q : Placement) → ((i : ℕ) → fateOf (word i) ≡ kept) → ((g : ℕ → ℕ) (i : ℕ) → renamed g (word i) ≡ word (g i)) → ((i : ℕ) → kindOf (word i) ≡ Ciphertext)
-        → ((n i : ℕ) (found : List Found) → step (checkMachine h) n found (word i) ≡ andThen (operand (checkMachine h) found i) (Refused.onCiphertext (λ s l. bounded h Found.ciphertext (pos s) (pos l))))
+        → ((n i : ℕ) (found : List Found) → step (checkMachine h) n found (word i) ≡ andThen (operand (checkMachine h) found i) (Refused.onCiphertext (λ s l. bounded h Founds.Ciphertext (pos s) (pos l))))
         → ((ls : List Line) (i : ℕ) → kindAt ls i ≡ Ciphertext → T (lineFormed Schedule h ls (word i)))
-        → getD full a Best.constant ≡ Best.ciphertext q → Ready lines numbers a (Best.ciphertext q)
+        → getD full a Bests.Constant ≡ Bests.Ciphertext q → Ready lines numbers a (Bests.Ciphertext q)
         → Grown h 7 lines (planOne h full numbers (placeAt h (q .reserve)) word a lines .lines) (done ++ (word a ∷ [])) (numbers ++ (planOne h full numbers (placeAt h (q .reserve)) word a lines .number ∷ []))
-        (planOne h full numbers (placeAt h (q .reserve)) word a lines .number) (foundFor h H (Best.ciphertext (placeAt h (q .reserve)))) Ciphertext (length done)
+        (planOne h full numbers (placeAt h (q .reserve)) word a lines .number) (foundFor h H (Bests.Ciphertext (placeAt h (q .reserve)))) Ciphertext (length done)
     one-grown word a q fate rename kind steps forms e x =
         subst (λ (k : Kind). Grown h 7 lines (D .lines ++ (word (D .number) ∷ [])) (done ++ (word a ∷ [])) (numbers ++ (length (D .lines) ∷ [])) (length (D .lines)) result k (length done)) (kind (D .number))
         (at-most h 7 (omega arith) (then h g₁ (emit-kept h (word (D .number)) (word a) result (g₁ .sound) (fate _)
-        (λ n. steps n (D .number) (foundIn h (D .lines)) ∙ ap (λ (s : Step Found ℕ). andThen s (Refused.onCiphertext (λ s l. bounded h Found.ciphertext (pos s) (pos l)))) (reads h (g₁ .stands)) ∙ bounded-goes h Found.ciphertext _ _ (valid-bounds h H (m .own)))
+        (λ n. steps n (D .number) (foundIn h (D .lines)) ∙ ap (λ (s : Step Found ℕ). andThen s (Refused.onCiphertext (λ s l. bounded h Founds.Ciphertext (pos s) (pos l)))) (reads h (g₁ .stands)) ∙ bounded-goes h Founds.Ciphertext _ _ (valid-bounds h H (m .own)))
         (forms (D .lines) (D .number) (kind-at h (g₁ .stands))) (rename _ _ ∙ ap word (names (g₁ .stands))))))
       where
         p : Placement
         p = placeAt h (q .reserve)
 
-        m : Meets h H (placeAt h (q .reserve)) (Best.ciphertext q) (Best.ciphertext q)
+        m : Meets h H (placeAt h (q .reserve)) (Bests.Ciphertext q) (Bests.Ciphertext q)
         m = meets-one h H q (x .valid)
 
         result : Found
-        result = foundFor h H (Best.ciphertext (placeAt h (q .reserve)))
+        result = foundFor h H (Bests.Ciphertext (placeAt h (q .reserve)))
 
         D : Draft
         D = operandTo h full numbers (placeAt h (q .reserve)) (q .reserve) a lines
 
         g₁ : Grown h 3 lines (D .lines) done numbers (D .number) result Ciphertext a
-        g₁ = brought a (Best.ciphertext q) lines (placeAt h (q .reserve)) (q .reserve) e (x .valid) (m .first) (m .first-reached) S (x .stands)
+        g₁ = brought a (Bests.Ciphertext q) lines (placeAt h (q .reserve)) (q .reserve) e (x .valid) (m .first) (m .first-reached) S (x .stands)
 
-    pub out-grown : (a : ℕ) (q : Placement) → Ready lines numbers a (Best.ciphertext q)
-        → Grown h 7 lines (lines ++ (Out (getD numbers a 0) ∷ [])) (done ++ (Out a ∷ [])) (numbers ++ (length lines ∷ [])) (length lines) (foundFor h H (Best.ciphertext q)) Nothing (length done)
-    out-grown a q x = at-most h 7 (omega arith) (emit-kept h (Out (getD numbers a 0)) (Out a) (foundFor h H (Best.ciphertext q)) S refl
-        (λ n. ap (λ (s : Step Found ℕ). andThen s (Refused.onCiphertext (λ s l. bounded h Found.ciphertext (pos s) (pos l)))) (reads h (x .stands)) ∙ bounded-goes h Found.ciphertext _ _ (valid-bounds h H (x .valid)))
+    pub out-grown : (a : ℕ) (q : Placement) → Ready lines numbers a (Bests.Ciphertext q)
+        → Grown h 7 lines (lines ++ (Out (getD numbers a 0) ∷ [])) (done ++ (Out a ∷ [])) (numbers ++ (length lines ∷ [])) (length lines) (foundFor h H (Bests.Ciphertext q)) Nothing (length done)
+    out-grown a q x = at-most h 7 (omega arith) (emit-kept h (Out (getD numbers a 0)) (Out a) (foundFor h H (Bests.Ciphertext q)) S refl
+        (λ n. ap (λ (s : Step Found ℕ). andThen s (Refused.onCiphertext (λ s l. bounded h Founds.Ciphertext (pos s) (pos l)))) (reads h (x .stands)) ∙ bounded-goes h Founds.Ciphertext _ _ (valid-bounds h H (x .valid)))
         (on-ciphertext-formed true (kindAt lines (getD numbers a 0)) tt (kind-at h (x .stands))) (ap Out (names (x .stands))))
 
-    pub const-grown : (k : ℕ) → T (inRange Schedule h (Const k)) → Grown h 7 lines (lines ++ (Const k ∷ [])) (done ++ (Const k ∷ [])) (numbers ++ (length lines ∷ [])) (length lines) Found.bare Constant (length done)
-    const-grown k r = at-most h 7 (omega arith) (emit-kept h (Const k) (Const k) Found.bare S refl (λ n. refl) (and-both (inRange Schedule h (Const k)) true r tt) refl)
+    pub const-grown : (k : ℕ) → T (inRange Schedule h (Const k)) → Grown h 7 lines (lines ++ (Const k ∷ [])) (done ++ (Const k ∷ [])) (numbers ++ (length lines ∷ [])) (length lines) Founds.Bare Constant (length done)
+    const-grown k r = at-most h 7 (omega arith) (emit-kept h (Const k) (Const k) Founds.Bare S refl (λ n. refl) (and-both (inRange Schedule h (Const k)) true r tt) refl)
 
-    pub in-grown : Valid h H (atWaterline h (h .top)) (h .top) → Grown h 7 lines (lines ++ (In ∷ [])) (done ++ (In ∷ [])) (numbers ++ (length lines ∷ [])) (length lines) (foundFor h H (Best.ciphertext (placeInput h))) Ciphertext (length done)
-    in-grown v = at-most h 7 (omega arith) (emit-kept h In In (foundFor h H (Best.ciphertext (placeInput h))) S refl
-        (λ n. ap (λ (s : ℕ). bounded h Found.ciphertext (pos s) (pos (h .top))) scale ∙ bounded-goes h Found.ciphertext _ _ (valid-bounds h H v)) tt refl)
+    pub in-grown : Valid h H (atWaterline h (h .top)) (h .top) → Grown h 7 lines (lines ++ (In ∷ [])) (done ++ (In ∷ [])) (numbers ++ (length lines ∷ [])) (length lines) (foundFor h H (Bests.Ciphertext (placeInput h))) Ciphertext (length done)
+    in-grown v = at-most h 7 (omega arith) (emit-kept h In In (foundFor h H (Bests.Ciphertext (placeInput h))) S refl
+        (λ n. ap (λ (s : ℕ). bounded h Founds.Ciphertext (pos s) (pos (h .top))) scale ∙ bounded-goes h Founds.Ciphertext _ _ (valid-bounds h H v)) tt refl)
       where
         scale : h .waterline ≡ scaleAt h H (atWaterline h (h .top)) (h .top)
         scale = omega (arith, positive-sub (h .factor * h .top) (h .waterline), v .fits)

@@ -10,7 +10,9 @@ use Rattle.ints.proofs.Linear.{signed, parts+, parts-, is-positive, positive-su
 use Rattle.model.specs.declared.Header.{Header}
 use Rattle.model.specs.Scales.{floor}
 use Rattle.model.specs.declared.Placement.{Placement}
-use Rattle.model.specs.Plan.{Best, lowestLevel, smaller, atWaterline, placeAt, placeTimesConstant, placeConstantTimes, placeProduct}
+use Rattle.model.specs.declared.Best.{Best}
+use Rattle.model.specs.declared.Best.the-variants as Bests
+use Rattle.model.specs.Plan.{lowestLevel, smaller, atWaterline, placeAt, placeTimesConstant, placeConstantTimes, placeProduct}
 use Rattle.model.proofs.Tests.{HeaderFacts}
 use Rattle.model.proofs.Levels.{fits, least}
 use Rattle.model.proofs.Tests.{by-test}
@@ -45,10 +47,10 @@ module _ (h : Header) (H : HeaderFacts h) where
         top = omega (arith, own-level r l v, v .top);
       }
 
-  pub meets-one : (q : Placement) → Valid h H (q .reserve) (q .level) → Meets (placeAt h (q .reserve)) (Best.ciphertext q) (Best.ciphertext q)
+  pub meets-one : (q : Placement) → Valid h H (q .reserve) (q .level) → Meets (placeAt h (q .reserve)) (Bests.Ciphertext q) (Bests.Ciphertext q)
   meets-one q v =
       let w = own-fits (q .reserve) (q .level) v in
-      let reached : Reaches h H (Best.ciphertext q) (q .reserve) (lowestLevel h (q .reserve)) = (omega arith, own-level (q .reserve) (q .level) v) in
+      let reached : Reaches h H (Bests.Ciphertext q) (q .reserve) (lowestLevel h (q .reserve)) = (omega arith, own-level (q .reserve) (q .level) v) in
       record { first = w; second = w; own = w; first-reached = reached; second-reached = reached }
 
   -- the parts of numbers that are not below zero keep their order
@@ -57,13 +59,13 @@ module _ (h : Header) (H : HeaderFacts h) where
 
   -- ---- `add` of two ciphertexts: the smaller of two reserves is one of them
   pub meets-sum : (q q′ : Placement) → Valid h H (q .reserve) (q .level) → Valid h H (q′ .reserve) (q′ .level)
-      → Meets (placeAt h (smaller (q .reserve) (q′ .reserve))) (Best.ciphertext q) (Best.ciphertext q′)
+      → Meets (placeAt h (smaller (q .reserve) (q′ .reserve))) (Bests.Ciphertext q) (Bests.Ciphertext q′)
   meets-sum q q′ v v′ = by-test P (leZ (q .reserve) (q′ .reserve)) (q .reserve) (q′ .reserve)
       (λ e. at (q .reserve) (q .level) v (omega signed) (record { le = subst (λ b. lib.Dec.T b) (sym e) tt }))
       (λ e. at (q′ .reserve) (q′ .level) v′ (omega (signed, e)) (omega signed))
     where
       P : ℤ → Type 0
-      P r = Meets (placeAt h r) (Best.ciphertext q) (Best.ciphertext q′)
+      P r = Meets (placeAt h r) (Bests.Ciphertext q) (Bests.Ciphertext q′)
 
       at : (r : ℤ) (l : ℕ) → Valid h H r l → r ≤ℤ q .reserve → r ≤ℤ q′ .reserve → P r
       at r l u o o′ =
@@ -76,7 +78,7 @@ module _ (h : Header) (H : HeaderFacts h) where
             second-reached = reached q′ v′ o′;
           }
         where
-          reached : (t : Placement) → Valid h H (t .reserve) (t .level) → r ≤ℤ t .reserve → Reaches h H (Best.ciphertext t) r (lowestLevel h r)
+          reached : (t : Placement) → Valid h H (t .reserve) (t .level) → r ≤ℤ t .reserve → Reaches h H (Bests.Ciphertext t) r (lowestLevel h r)
           reached t x y = (whole-le (u .whole) (x .whole) y, subst (λ (z : ℤ). lowestLevel h z ≤ t .level) (sym (u .whole)) (least h F⁺ (positive r) (t .level) (omega (arith, whole-le (u .whole) (x .whole) y, x .fits))))
 
   -- ---- `mul` with a constant
@@ -107,13 +109,13 @@ module _ (h : Header) (H : HeaderFacts h) where
     constant-valid : Valid h H (atWaterline h (lowestLevel h (q .reserve))) (lowestLevel h (q .reserve))
     constant-valid = waterline-valid (lowestLevel h (q .reserve)) (positive (q .reserve)) (at-own .fits) (v .least) (at-own .top)
 
-    reached : Reaches h H (Best.ciphertext q) (q .reserve) (lowestLevel h (q .reserve))
+    reached : Reaches h H (Bests.Ciphertext q) (q .reserve) (lowestLevel h (q .reserve))
     reached = (omega arith, own-level (q .reserve) (q .level) v)
 
-    pub meets-times-constant : Meets (placeTimesConstant h (q .reserve)) (Best.ciphertext q) Best.constant
+    pub meets-times-constant : Meets (placeTimesConstant h (q .reserve)) (Bests.Ciphertext q) Bests.Constant
     meets-times-constant = record { first = at-own; second = constant-valid; own = less-valid (q .reserve) (lowestLevel h (q .reserve)) at-own o; first-reached = reached; second-reached = tt }
 
-    pub meets-constant-times : Meets (placeConstantTimes h (q .reserve)) Best.constant (Best.ciphertext q)
+    pub meets-constant-times : Meets (placeConstantTimes h (q .reserve)) Bests.Constant (Bests.Ciphertext q)
     meets-constant-times = record { first = constant-valid; second = at-own; own = less-valid (q .reserve) (lowestLevel h (q .reserve)) at-own o; first-reached = tt; second-reached = reached }
 
     -- the constant's W is taken from the reserve
@@ -197,7 +199,7 @@ module _ (h : Header) (H : HeaderFacts h) where
     low′ : p .level ≤ q′ .level
     low′ = omega (arith, product-level h F⁺ (q .reserve) (q′ .reserve) .1, own-level (q′ .reserve) (q′ .level) v′)
 
-    pub meets-product : Meets p (Best.ciphertext q) (Best.ciphertext q′)
+    pub meets-product : Meets p (Bests.Ciphertext q) (Bests.Ciphertext q′)
     meets-product =
         record {
           first = record { whole = first-whole; fits = first-fits; least = omega (arith, sum-is, second-fits, least-left); top = omega (arith, low, v .top) };

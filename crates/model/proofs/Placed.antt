@@ -10,16 +10,18 @@ use Rattle.model.specs.declared.Header.{Header}
 use Rattle.model.specs.Scales.{floor}
 use Rattle.model.specs.Machine.{Step, goes, stops}
 use Rattle.model.specs.declared.Placement.{Placement}
-use Rattle.model.specs.Plan.{Best, placed}
+use Rattle.model.specs.declared.Best.{Best}
+use Rattle.model.specs.declared.Best.the-variants as Bests
+use Rattle.model.specs.Plan.{placed}
 use Rattle.model.proofs.Tests.{by-test}
 
 module _ (h : Header) (p : Placement) where
-  pub placed-goes : pos (floor h) ≤ℤ p .reserve → placed h p ≡ goes (Best.ciphertext p)
-  placed-goes a = by-test (λ t. t ≡ goes (Best.ciphertext p)) (ltZ (p .reserve) (pos (floor h))) (stops 6) (goes (Best.ciphertext p))
+  pub placed-goes : pos (floor h) ≤ℤ p .reserve → placed h p ≡ goes (Bests.Ciphertext p)
+  placed-goes a = by-test (λ t. t ≡ goes (Bests.Ciphertext p)) (ltZ (p .reserve) (pos (floor h))) (stops 6) (goes (Bests.Ciphertext p))
       (λ e. absurd (never (lt-true (p .reserve) (pos (floor h)) e) (≤-read (pos (floor h)) (p .reserve) a))) (λ e. refl)
     where
       never : positive (p .reserve) + 0 < floor h + negative (p .reserve) → floor h + negative (p .reserve) ≤ positive (p .reserve) + 0 → ⊥
       never x y = omega arith
 
-  pub placed-elim : (P : Step Best ℕ → Type 0) → P (stops 6) → (pos (floor h) ≤ℤ p .reserve → P (goes (Best.ciphertext p))) → P (placed h p)
-  placed-elim P s g = by-test P (ltZ (p .reserve) (pos (floor h))) (stops 6) (goes (Best.ciphertext p)) (λ e. s) (λ e. g (omega (signed, e)))
+  pub placed-elim : (P : Step Best ℕ → Type 0) → P (stops 6) → (pos (floor h) ≤ℤ p .reserve → P (goes (Bests.Ciphertext p))) → P (placed h p)
+  placed-elim P s g = by-test P (ltZ (p .reserve) (pos (floor h))) (stops 6) (goes (Bests.Ciphertext p)) (λ e. s) (λ e. g (omega (signed, e)))

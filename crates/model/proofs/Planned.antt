@@ -21,8 +21,11 @@ use Rattle.model.specs.Files.{kindOf, kindAt, isUsable, inRange, everyUs
 use Rattle.model.specs.Machine.{Step, goes, stops, Run, finished, stopped, andThen, orAbsent, operand, step, countIn, runFrom, run}
 use Rattle.model.specs.Rules.{Bounds}
 use Rattle.model.specs.declared.Placement.{Placement}
-use Rattle.model.specs.Plan.{Draft, Best, atWaterline, smaller, placeInput, placeAt, placeTimesConstant, placeConstantTimes, placeProduct, placed, onReserves, bestMachine, placementOf, planLine, planFrom, planLines}
-use Rattle.model.specs.Refused.{Found, sum, product, bounded}
+use Rattle.model.specs.declared.Best.{Best}
+use Rattle.model.specs.declared.Best.the-variants as Bests
+use Rattle.model.specs.Plan.{Draft, atWaterline, smaller, placeInput, placeAt, placeTimesConstant, placeConstantTimes, placeProduct, placed, onReserves, bestMachine, placementOf, planLine, planFrom, planLines}
+use Rattle.model.specs.declared.Found.the-variants as Founds
+use Rattle.model.specs.Refused.{sum, product, bounded}
 use Rattle.model.proofs.Tests.{and-first, and-second, cond-true, HeaderFacts}
 use Rattle.model.proofs.Lists.{length-snoc, found-after, found-last, found-snoc, found-is}
 use Rattle.model.proofs.Runs.{stops-goes, goes-is, stopped-finished, finished-is, kept-on}
@@ -43,17 +46,17 @@ module _ (h : Header) (H : HeaderFacts h) where
       go none p q = stops-goes q
       go (some b) p q = k b p q
 
-  by-placed : (p : Placement) {v : Best} (Q : Best → Type 0) → placed h p ≡ goes v → (pos (floor h) ≤ℤ p .reserve → Q (Best.ciphertext p)) → Q v
+  by-placed : (p : Placement) {v : Best} (Q : Best → Type 0) → placed h p ≡ goes v → (pos (floor h) ≤ℤ p .reserve → Q (Bests.Ciphertext p)) → Q v
   by-placed p {v} Q e k = placed-elim h p (λ s. s ≡ goes v → Q v) (λ q. stops-goes q) (λ o q. subst Q (goes-is q) (k o)) e
 
   by-goes : {b v : Best} (Q : Best → Type 0) → _≡_ {A = Step Best ℕ} (goes b) (goes v) → Q b → Q v
   by-goes Q e q = subst Q (goes-is e) q
 
-  sum-goes : (s l : ℕ) → Bounds h s l → sum h s l s l ≡ goes (Found.ciphertext s l)
-  sum-goes s l b = cond-true (eqb l l) _ _ (eqb-refl l) ∙ cond-true (eqb s s) _ _ (eqb-refl s) ∙ bounded-goes h Found.ciphertext s l b
+  sum-goes : (s l : ℕ) → Bounds h s l → sum h s l s l ≡ goes (Founds.Ciphertext s l)
+  sum-goes s l b = cond-true (eqb l l) _ _ (eqb-refl l) ∙ cond-true (eqb s s) _ _ (eqb-refl s) ∙ bounded-goes h Founds.Ciphertext s l b
 
-  product-goes : (s s′ t l : ℕ) → s + s′ ≡ t → Bounds h t l → product h s l s′ l ≡ goes (Found.ciphertext t l)
-  product-goes s s′ t l e b = cond-true (eqb l l) _ _ (eqb-refl l) ∙ ap (λ (n : ℕ). bounded h Found.ciphertext (pos n) (pos l)) e ∙ bounded-goes h Found.ciphertext t l b
+  product-goes : (s s′ t l : ℕ) → s + s′ ≡ t → Bounds h t l → product h s l s′ l ≡ goes (Founds.Ciphertext t l)
+  product-goes s s′ t l e b = cond-true (eqb l l) _ _ (eqb-refl l) ∙ ap (λ (n : ℕ). bounded h Founds.Ciphertext (pos n) (pos l)) e ∙ bounded-goes h Founds.Ciphertext t l b
 
   input-valid : pos (floor h) ≤ℤ atWaterline h (h .top) → Valid h H (atWaterline h (h .top)) (h .top)
   input-valid o = waterline-valid h H (h .top) (h .factor * h .top - h .waterline) fits-top least-top (omega arith)
@@ -70,7 +73,7 @@ module _ (h : Header) (H : HeaderFacts h) where
       least-top : floor h ≤ h .factor * h .top - h .waterline
       least-top = omega (arith, parts, ≤-read (pos (floor h)) z o)
 
-  module _ (full : List Best) {done lines : List Line} {best : List Best} {numbers : List ℕ} (P : Progress h H done best numbers lines) (prefix : (a : ℕ) (b : Best) → getElem? best a ≡ some b → getD full a Best.constant ≡ b) where
+  module _ (full : List Best) {done lines : List Line} {best : List Best} {numbers : List ℕ} (P : Progress h H done best numbers lines) (prefix : (a : ℕ) (b : Best) → getElem? best a ≡ some b → getD full a Bests.Constant ≡ b) where
     -- a circuit line whose best value is v, planned
     pub record Added (x : Line) (v : Best) : Type 0 where
       pub valid : ValidBest h H v
@@ -86,40 +89,40 @@ module _ (h : Header) (H : HeaderFacts h) where
 
     -- ---- `neg` and `rot`
     one-added : (word : ℕ → Line) (a : ℕ) (b v : Best) → LineFacts Circuit h done (word a) → getElem? best a ≡ some b → T (isUsable (kindAt done a))
-        → ((q : Placement) → Best.ciphertext q ≡ b → Added (word a) (Best.ciphertext (placeAt h (q .reserve)))) → Rattle.model.specs.Plan.onCiphertext (λ p. placed h (placeAt h (p .reserve))) b ≡ goes v → Added (word a) v
-    one-added word a Best.constant v L e u k s = stops-goes s
-    one-added word a (Best.ciphertext q) v L e u k s = by-placed (placeAt h (q .reserve)) (Added (word a)) s (λ o. k q refl)
+        → ((q : Placement) → Bests.Ciphertext q ≡ b → Added (word a) (Bests.Ciphertext (placeAt h (q .reserve)))) → Rattle.model.specs.Plan.onCiphertext (λ p. placed h (placeAt h (p .reserve))) b ≡ goes v → Added (word a) v
+    one-added word a Bests.Constant v L e u k s = stops-goes s
+    one-added word a (Bests.Ciphertext q) v L e u k s = by-placed (placeAt h (q .reserve)) (Added (word a)) s (λ o. k q refl)
 
     neg-added : (a : ℕ) (b v : Best) → LineFacts Circuit h done (Neg a) → getElem? best a ≡ some b → T (isUsable (kindAt done a)) → Rattle.model.specs.Plan.onCiphertext (λ p. placed h (placeAt h (p .reserve))) b ≡ goes v → Added (Neg a) v
     neg-added a b v L e u = one-added Neg a b v L e u (λ q w.
-        let r = ready h H P a (Best.ciphertext q) u (e ∙ ap some (sym w)) in
+        let r = ready h H P a (Bests.Ciphertext q) u (e ∙ ap some (sym w)) in
         record {
           valid = meets-one h H q (r .valid) .own;
           kind = λ t. refl;
-          grown = one-grown h H full S Neg a q (λ i. refl) (λ g i. refl) (λ i. refl) (λ n i found. refl) (λ ls i k. on-ciphertext-formed true (kindAt ls i) tt k) (prefix a (Best.ciphertext q) (e ∙ ap some (sym w))) r;
+          grown = one-grown h H full S Neg a q (λ i. refl) (λ g i. refl) (λ i. refl) (λ n i found. refl) (λ ls i k. on-ciphertext-formed true (kindAt ls i) tt k) (prefix a (Bests.Ciphertext q) (e ∙ ap some (sym w))) r;
         })
 
     rot-added : (a : ℕ) (t : ℤ) (b v : Best) → LineFacts Circuit h done (Rot a t) → getElem? best a ≡ some b → T (isUsable (kindAt done a)) → Rattle.model.specs.Plan.onCiphertext (λ p. placed h (placeAt h (p .reserve))) b ≡ goes v → Added (Rot a t) v
     rot-added a t b v L e u = one-added (λ i. Rot i t) a b v L e u (λ q w.
-        let r = ready h H P a (Best.ciphertext q) u (e ∙ ap some (sym w)) in
+        let r = ready h H P a (Bests.Ciphertext q) u (e ∙ ap some (sym w)) in
         record {
           valid = meets-one h H q (r .valid) .own;
           kind = λ t. refl;
-          grown = one-grown h H full S (λ i. Rot i t) a q (λ i. refl) (λ g i. refl) (λ i. refl) (λ n i found. refl) (λ ls i k. on-ciphertext-formed (inRange Schedule h (Rot a t)) (kindAt ls i) (L .range) k) (prefix a (Best.ciphertext q) (e ∙ ap some (sym w))) r;
+          grown = one-grown h H full S (λ i. Rot i t) a q (λ i. refl) (λ g i. refl) (λ i. refl) (λ n i found. refl) (λ ls i k. on-ciphertext-formed (inRange Schedule h (Rot a t)) (kindAt ls i) (L .range) k) (prefix a (Bests.Ciphertext q) (e ∙ ap some (sym w))) r;
         })
 
     -- ---- `out`
-    out-added : (a : ℕ) (b v : Best) → getElem? best a ≡ some b → T (isUsable (kindAt done a)) → Rattle.model.specs.Plan.onCiphertext (λ p. goes (Best.ciphertext p)) b ≡ goes v → Added (Out a) v
-    out-added a Best.constant v e u s = stops-goes s
-    out-added a (Best.ciphertext q) v e u s = by-goes (Added (Out a)) s
-        (let r = ready h H P a (Best.ciphertext q) u e in record { valid = r .valid; kind = λ t. absurd t; grown = out-grown h H full S a q r })
+    out-added : (a : ℕ) (b v : Best) → getElem? best a ≡ some b → T (isUsable (kindAt done a)) → Rattle.model.specs.Plan.onCiphertext (λ p. goes (Bests.Ciphertext p)) b ≡ goes v → Added (Out a) v
+    out-added a Bests.Constant v e u s = stops-goes s
+    out-added a (Bests.Ciphertext q) v e u s = by-goes (Added (Out a)) s
+        (let r = ready h H P a (Bests.Ciphertext q) u e in record { valid = r .valid; kind = λ t. absurd t; grown = out-grown h H full S a q r })
 
     -- ---- `add` and `mul`
     usable-two : (a b : ℕ) → T (everyUsable done (a ∷ b ∷ [])) → T (isUsable (kindAt done a)) × T (isUsable (kindAt done b))
     usable-two a b t = (and-first (isUsable (kindAt done a)) (isUsable (kindAt done b) && true) t, usable-one b (and-second (isUsable (kindAt done a)) (isUsable (kindAt done b) && true) t))
 
     module _ (a b : ℕ) {u v : Best} (e : getElem? best a ≡ some u) (e′ : getElem? best b ≡ some v) (x : Ready h H lines numbers a u) (y : Ready h H lines numbers b v) where
-      add-grown : (p : Placement) → Rattle.model.proofs.Lines.Pair h H u v → Meets h H p u v → scaleAt h H (p .first) (p .level) ≡ scaleAt h H (p .reserve) (p .level) → scaleAt h H (p .second) (p .level) ≡ scaleAt h H (p .reserve) (p .level) → Added (Add a b) (Best.ciphertext p)
+      add-grown : (p : Placement) → Rattle.model.proofs.Lines.Pair h H u v → Meets h H p u v → scaleAt h H (p .first) (p .level) ≡ scaleAt h H (p .reserve) (p .level) → scaleAt h H (p .second) (p .level) ≡ scaleAt h H (p .reserve) (p .level) → Added (Add a b) (Bests.Ciphertext p)
       add-grown p z m i j =
           record {
             valid = m .own;
@@ -128,7 +131,7 @@ module _ (h : Header) (H : HeaderFacts h) where
                 (ap₂ (λ (s s′ : ℕ). sum h s (p .level) s′ (p .level)) i j ∙ sum-goes (scaleAt h H (p .reserve) (p .level)) (p .level) (valid-bounds h H (m .own)));
           }
 
-      mul-grown : (p : Placement) → Rattle.model.proofs.Lines.Pair h H u v → Meets h H p u v → scaleAt h H (p .first) (p .level) + scaleAt h H (p .second) (p .level) ≡ scaleAt h H (p .reserve) (p .level) → Added (Mul a b) (Best.ciphertext p)
+      mul-grown : (p : Placement) → Rattle.model.proofs.Lines.Pair h H u v → Meets h H p u v → scaleAt h H (p .first) (p .level) + scaleAt h H (p .second) (p .level) ≡ scaleAt h H (p .reserve) (p .level) → Added (Mul a b) (Bests.Ciphertext p)
       mul-grown p z m i =
           record {
             valid = m .own;
@@ -139,25 +142,25 @@ module _ (h : Header) (H : HeaderFacts h) where
 
     add-added : (a b : ℕ) (u v w : Best) → getElem? best a ≡ some u → getElem? best b ≡ some v → Ready h H lines numbers a u → Ready h H lines numbers b v
         → onReserves (λ r r′. placed h (placeAt h (smaller r r′))) (λ r. placed h (placeAt h r)) (λ r. placed h (placeAt h r)) u v ≡ goes w → Added (Add a b) w
-    add-added a b Best.constant Best.constant w e e′ x y s = stops-goes s
-    add-added a b Best.constant (Best.ciphertext q) w e e′ x y s = by-placed (placeAt h (q .reserve)) (Added (Add a b)) s
+    add-added a b Bests.Constant Bests.Constant w e e′ x y s = stops-goes s
+    add-added a b Bests.Constant (Bests.Ciphertext q) w e e′ x y s = by-placed (placeAt h (q .reserve)) (Added (Add a b)) s
         (λ o. let m = meets-one h H q (y .valid) in add-grown a b e e′ x y (placeAt h (q .reserve)) tt (record { first = m .first; second = m .second; own = m .own; first-reached = tt; second-reached = m .second-reached }) refl refl)
-    add-added a b (Best.ciphertext q) Best.constant w e e′ x y s = by-placed (placeAt h (q .reserve)) (Added (Add a b)) s
+    add-added a b (Bests.Ciphertext q) Bests.Constant w e e′ x y s = by-placed (placeAt h (q .reserve)) (Added (Add a b)) s
         (λ o. let m = meets-one h H q (x .valid) in add-grown a b e e′ x y (placeAt h (q .reserve)) tt (record { first = m .first; second = m .second; own = m .own; first-reached = m .first-reached; second-reached = tt }) refl refl)
-    add-added a b (Best.ciphertext q) (Best.ciphertext q′) w e e′ x y s = by-placed (placeAt h (smaller (q .reserve) (q′ .reserve))) (Added (Add a b)) s
+    add-added a b (Bests.Ciphertext q) (Bests.Ciphertext q′) w e e′ x y s = by-placed (placeAt h (smaller (q .reserve) (q′ .reserve))) (Added (Add a b)) s
         (λ o. add-grown a b e e′ x y (placeAt h (smaller (q .reserve) (q′ .reserve))) tt (meets-sum h H q q′ (x .valid) (y .valid)) refl refl)
 
     mul-added : (a b : ℕ) (u v w : Best) → getElem? best a ≡ some u → getElem? best b ≡ some v → Ready h H lines numbers a u → Ready h H lines numbers b v
         → onReserves (λ r r′. placed h (placeProduct h r r′)) (λ r. placed h (placeTimesConstant h r)) (λ r. placed h (placeConstantTimes h r)) u v ≡ goes w → Added (Mul a b) w
-    mul-added a b Best.constant Best.constant w e e′ x y s = stops-goes s
-    mul-added a b Best.constant (Best.ciphertext q) w e e′ x y s = by-placed (placeConstantTimes h (q .reserve)) (Added (Mul a b)) s
+    mul-added a b Bests.Constant Bests.Constant w e e′ x y s = stops-goes s
+    mul-added a b Bests.Constant (Bests.Ciphertext q) w e e′ x y s = by-placed (placeConstantTimes h (q .reserve)) (Added (Mul a b)) s
         (λ o. mul-grown a b e e′ x y (placeConstantTimes h (q .reserve)) tt (meets-constant-times h H q (y .valid) o) (turn _ _ ∙ constant-scale h H q (y .valid) o))
       where
         turn : (m n : ℕ) → m + n ≡ n + m
         turn m n = omega arith
-    mul-added a b (Best.ciphertext q) Best.constant w e e′ x y s = by-placed (placeTimesConstant h (q .reserve)) (Added (Mul a b)) s
+    mul-added a b (Bests.Ciphertext q) Bests.Constant w e e′ x y s = by-placed (placeTimesConstant h (q .reserve)) (Added (Mul a b)) s
         (λ o. mul-grown a b e e′ x y (placeTimesConstant h (q .reserve)) tt (meets-times-constant h H q (x .valid) o) (constant-scale h H q (x .valid) o))
-    mul-added a b (Best.ciphertext q) (Best.ciphertext q′) w e e′ x y s = by-placed (placeProduct h (q .reserve) (q′ .reserve)) (Added (Mul a b)) s
+    mul-added a b (Bests.Ciphertext q) (Bests.Ciphertext q′) w e e′ x y s = by-placed (placeProduct h (q .reserve) (q′ .reserve)) (Added (Mul a b)) s
         (λ o. mul-grown a b e e′ x y (placeProduct h (q .reserve) (q′ .reserve)) tt (meets-product h H q q′ (x .valid) (y .valid) o) (product-scale h H q q′ (x .valid) (y .valid) o))
 
     two-added : (word : ℕ → ℕ → Line) (f : Best → Best → Step Best ℕ) (a b : ℕ) (w : Best) → T (everyUsable done (a ∷ b ∷ []))
@@ -183,7 +186,7 @@ module _ (h : Header) (H : HeaderFacts h) where
     line-added Free k v L q = absurd (L .word)
 
   -- ---- the whole circuit
-  module _ (full : List Best) {done lines : List Line} {best : List Best} {numbers : List ℕ} (P : Progress h H done best numbers lines) (prefix : (a : ℕ) (b : Best) → getElem? best a ≡ some b → getD full a Best.constant ≡ b) where
+  module _ (full : List Best) {done lines : List Line} {best : List Best} {numbers : List ℕ} (P : Progress h H done best numbers lines) (prefix : (a : ℕ) (b : Best) → getElem? best a ≡ some b → getD full a Bests.Constant ≡ b) where
     -- one line more
     more : (x : Line) (v : Best) → Added full P prefix x v → Progress h H (done ++ (x ∷ [])) (best ++ (v ∷ [])) (numbers ++ (planLine h full numbers (placementOf v) x lines .number ∷ [])) (planLine h full numbers (placementOf v) x lines .lines)
     more x v A =
@@ -260,11 +263,11 @@ module _ (h : Header) (H : HeaderFacts h) where
           (subst (λ (c : List Line). Whole c full (planFrom h full (numbers ++ (d v .number ∷ [])) (d v .lines) xs)) (append-assoc done (x ∷ []) xs)
           (r v (numbers ++ (d v .number ∷ [])) (d v .lines) (more full P prefix x v (line-added full P prefix x k v L p)) q))
         where
-          prefix : (a : ℕ) (b : Best) → getElem? best a ≡ some b → getD full a Best.constant ≡ b
-          prefix a b f = found-is full a Best.constant (kept-on (bestMachine h) xs (countIn x k) (best ++ (v ∷ [])) q a (found-after best (v ∷ []) a f))
+          prefix : (a : ℕ) (b : Best) → getElem? best a ≡ some b → getD full a Bests.Constant ≡ b
+          prefix a b f = found-is full a Bests.Constant (kept-on (bestMachine h) xs (countIn x k) (best ++ (v ∷ [])) q a (found-after best (v ∷ []) a f))
 
-          own : getD full (length numbers) Best.constant ≡ v
-          own = ap (λ (i : ℕ). getD full i Best.constant) (P .counted ∙ sym (P .long)) ∙ found-is full (length best) Best.constant (kept-on (bestMachine h) xs (countIn x k) (best ++ (v ∷ [])) q (length best) (found-last best v))
+          own : getD full (length numbers) Bests.Constant ≡ v
+          own = ap (λ (i : ℕ). getD full i Bests.Constant) (P .counted ∙ sym (P .long)) ∙ found-is full (length best) Bests.Constant (kept-on (bestMachine h) xs (countIn x k) (best ++ (v ∷ [])) q (length best) (found-last best v))
 
   pub planned : (c : List Line) {best : List Best} → T (linesFormed Circuit h [] c) → run (bestMachine h) c ≡ finished best → Whole c best (planLines h best c)
   planned c {best} t e = planned-from c 0 [] [] best [] [] start t e

@@ -19,9 +19,13 @@ use Rattle.model.specs.Scales.{floor}
 use Rattle.model.specs.Files.{isWord, isCiphertext, isConstant, isPair, wellFormed}
 use Rattle.model.specs.Machine.{Step, goes, stops, finished, stopped, Machine, run}
 use Rattle.model.specs.declared.Placement.{Placement}
-use Rattle.model.specs.Plan.{smaller, placeInput, placeAt, placeTimesConstant, placeConstantTimes, placeProduct, Best, placed, onReserves, bestMachine}
+use Rattle.model.specs.declared.Best.{Best}
+use Rattle.model.specs.declared.Best.the-variants as Bests
+use Rattle.model.specs.Plan.{smaller, placeInput, placeAt, placeTimesConstant, placeConstantTimes, placeProduct, placed, onReserves, bestMachine}
 use Rattle.model.specs.Plan
-use Rattle.model.specs.Refused.{Found, encoded, ciphertext, bounded, onCiphertext, onPair, sum, product, checkMachine}
+use Rattle.model.specs.declared.Found.{Found}
+use Rattle.model.specs.declared.Found.the-variants as Founds
+use Rattle.model.specs.Refused.{bounded, onCiphertext, onPair, sum, product, checkMachine}
 use Rattle.model.proofs.Tests.{Within}
 use Rattle.model.proofs.Outcomes.{Outcome, outcome-cond, when-finished, when-stopped, RunOutcome}
 use Rattle.model.proofs.Formed.{well-lines, Matched, Result, OnOne, OnTwo, Duty, formed-run}
@@ -56,8 +60,8 @@ module _ {X E : Type 0} (M : Machine X E) (A : E → Type 0) (kind : X → Kind)
 
 -- ---- the best reserve
 abbrev pub bestKind : Best → Kind
-bestKind Plan.constant = Constant
-bestKind (Plan.ciphertext p) = Ciphertext
+bestKind Bests.Constant = Constant
+bestKind (Bests.Ciphertext p) = Ciphertext
 
 abbrev pub Six : ℕ → Type 0
 Six n = n ≡ 6
@@ -66,20 +70,20 @@ module _ (h : Header) (i : ℕ) where
   abbrev BestHolds : Line → Best → Type 0
   BestHolds x = Result (OfKind bestKind) i x
 
-  is-placed : (P : Best → Type 0) (p : Placement) → P (Plan.ciphertext p) → Outcome Six P (placed h p)
-  is-placed P p k = outcome-cond Six P (ltZ (p .reserve) (pos (floor h))) (stops 6) (goes (Plan.ciphertext p)) (λ t. refl) (λ t. k)
+  is-placed : (P : Best → Type 0) (p : Placement) → P (Bests.Ciphertext p) → Outcome Six P (placed h p)
+  is-placed P p k = outcome-cond Six P (ltZ (p .reserve) (pos (floor h))) (stops 6) (goes (Bests.Ciphertext p)) (λ t. refl) (λ t. k)
 
   best-one : (x : Line) (a : ℕ) (f : Placement → Step Best ℕ) → ((p : Placement) → Outcome Six (BestHolds x) (f p))
       → OnOne Six (OfKind bestKind) i x a Ciphertext (Plan.onCiphertext f)
-  best-one x a f k Plan.constant e = right-ciphertext (5 ≡ 6) e tt
-  best-one x a f k (Plan.ciphertext p) e = k p
+  best-one x a f k Bests.Constant e = right-ciphertext (5 ≡ 6) e tt
+  best-one x a f k (Bests.Ciphertext p) e = k p
 
-  best-two : (x : Line) (a b : ℕ) (both : ℤ → ℤ → Placement) (left right : ℤ → Placement) → ((p : Placement) → BestHolds x (Plan.ciphertext p))
+  best-two : (x : Line) (a b : ℕ) (both : ℤ → ℤ → Placement) (left right : ℤ → Placement) → ((p : Placement) → BestHolds x (Bests.Ciphertext p))
       → OnTwo Six (OfKind bestKind) Circuit i x a b (onReserves (λ r r′. placed h (both r r′)) (λ r. placed h (left r)) (λ r. placed h (right r)))
-  best-two x a b both left right k j l Plan.constant Plan.constant t e f = right-pair (5 ≡ 6) Circuit t e f tt
-  best-two x a b both left right k j l Plan.constant (Plan.ciphertext q) t e f = is-placed (BestHolds x) (right (q .reserve)) (k (right (q .reserve)))
-  best-two x a b both left right k j l (Plan.ciphertext p) Plan.constant t e f = is-placed (BestHolds x) (left (p .reserve)) (k (left (p .reserve)))
-  best-two x a b both left right k j l (Plan.ciphertext p) (Plan.ciphertext q) t e f =
+  best-two x a b both left right k j l Bests.Constant Bests.Constant t e f = right-pair (5 ≡ 6) Circuit t e f tt
+  best-two x a b both left right k j l Bests.Constant (Bests.Ciphertext q) t e f = is-placed (BestHolds x) (right (q .reserve)) (k (right (q .reserve)))
+  best-two x a b both left right k j l (Bests.Ciphertext p) Bests.Constant t e f = is-placed (BestHolds x) (left (p .reserve)) (k (left (p .reserve)))
+  best-two x a b both left right k j l (Bests.Ciphertext p) (Bests.Ciphertext q) t e f =
       is-placed (BestHolds x) (both (p .reserve) (q .reserve)) (k (both (p .reserve) (q .reserve)))
 
   best-duty : (x : Line) → T (isWord Circuit x) → Duty (bestMachine h) Six (OfKind bestKind) Circuit i x
@@ -89,7 +93,7 @@ module _ (h : Header) (i : ℕ) where
   best-duty (Rot a n) w = best-one (Rot a n) a (λ p. placed h (placeAt h (p .reserve))) (λ p. is-placed (BestHolds (Rot a n)) (placeAt h (p .reserve)) (λ u. refl))
   best-duty (Add a b) w = best-two (Add a b) a b (λ r r′. placeAt h (smaller r r′)) (placeAt h) (placeAt h) (λ p u. refl)
   best-duty (Mul a b) w = best-two (Mul a b) a b (placeProduct h) (placeTimesConstant h) (placeConstantTimes h) (λ p u. refl)
-  best-duty (Out a) w = best-one (Out a) a (λ p. goes (Plan.ciphertext p)) (λ p u. absurd u)
+  best-duty (Out a) w = best-one (Out a) a (λ p. goes (Bests.Ciphertext p)) (λ p u. absurd u)
   best-duty (Enc a s e) w = absurd w
   best-duty (Rs a c) w = absurd w
   best-duty (Ms a c) w = absurd w
@@ -114,27 +118,27 @@ module _ (h : Header) (i : ℕ) where
   is-bounded : (P : Found → Type 0) (make : ℕ → ℕ → Found) (s l : ℤ) → ((u w : ℕ) → P (make u w)) → Outcome RuleNumber P (bounded h make s l)
   is-bounded P make s l k = on-bounded RuleNumber P h make s l (λ t u. k _ _) (omega arith) (omega arith)
 
-  check-one : (x : Line) (a : ℕ) (s l : ℕ → ℕ → ℤ) → ((u w : ℕ) → FoundHolds x (ciphertext u w))
-      → OnOne RuleNumber (OfKind foundKind) i x a Ciphertext (onCiphertext (λ u w. bounded h ciphertext (s u w) (l u w)))
-  check-one x a s l k v e = on-ciphertext RuleNumber (FoundHolds x) (λ u w. bounded h ciphertext (s u w) (l u w)) v (right-ciphertext (RuleNumber 5) e)
-      (is-bounded (FoundHolds x) ciphertext (s (scaleOf v) (levelOf v)) (l (scaleOf v) (levelOf v)) k)
+  check-one : (x : Line) (a : ℕ) (s l : ℕ → ℕ → ℤ) → ((u w : ℕ) → FoundHolds x (Founds.Ciphertext u w))
+      → OnOne RuleNumber (OfKind foundKind) i x a Ciphertext (onCiphertext (λ u w. bounded h Founds.Ciphertext (s u w) (l u w)))
+  check-one x a s l k v e = on-ciphertext RuleNumber (FoundHolds x) (λ u w. bounded h Founds.Ciphertext (s u w) (l u w)) v (right-ciphertext (RuleNumber 5) e)
+      (is-bounded (FoundHolds x) Founds.Ciphertext (s (scaleOf v) (levelOf v)) (l (scaleOf v) (levelOf v)) k)
 
   check-two : (x : Line) (a b : ℕ) (f : ℕ → ℕ → ℕ → ℕ → Step Found ℕ) → ((s l s′ l′ : ℕ) → Outcome RuleNumber (FoundHolds x) (f s l s′ l′))
       → OnTwo RuleNumber (OfKind foundKind) Schedule i x a b (onPair f)
   check-two x a b f k j l v w t e g = on-pair RuleNumber (FoundHolds x) f v w (right-pair (RuleNumber 5) Schedule t e g) (k _ _ _ _)
 
   check-duty : (x : Line) → T (isWord Schedule x) → Duty (checkMachine h) RuleNumber (OfKind foundKind) Schedule i x
-  check-duty In w = λ k. is-bounded (FoundHolds In) ciphertext (pos (h .waterline)) (pos (h .top)) (λ s l u. refl)
+  check-duty In w = λ k. is-bounded (FoundHolds In) Founds.Ciphertext (pos (h .waterline)) (pos (h .top)) (λ s l u. refl)
   check-duty (Const k) w = λ u. refl
   check-duty (Neg a) w = check-one (Neg a) a (λ s l. pos s) (λ s l. pos l) (λ s l u. refl)
   check-duty (Rot a n) w = check-one (Rot a n) a (λ s l. pos s) (λ s l. pos l) (λ s l u. refl)
   check-duty (Add a b) w = check-two (Add a b) a b (sum h) (λ s l s′ l′. on-sum RuleNumber (FoundHolds (Add a b)) h s l s′ l′ (λ t. omega arith) (λ t. omega arith)
-      (λ e f. is-bounded (FoundHolds (Add a b)) ciphertext (pos s) (pos l) (λ s l u. refl)))
+      (λ e f. is-bounded (FoundHolds (Add a b)) Founds.Ciphertext (pos s) (pos l) (λ s l u. refl)))
   check-duty (Mul a b) w = check-two (Mul a b) a b (product h) (λ s l s′ l′. on-product RuleNumber (FoundHolds (Mul a b)) h s l s′ l′ (λ t. omega arith)
-      (λ e. is-bounded (FoundHolds (Mul a b)) ciphertext (pos (s + s′)) (pos l) (λ s l u. refl)))
+      (λ e. is-bounded (FoundHolds (Mul a b)) Founds.Ciphertext (pos (s + s′)) (pos l) (λ s l u. refl)))
   check-duty (Out a) w = check-one (Out a) a (λ s l. pos s) (λ s l. pos l) (λ s l u. absurd u)
-  check-duty (Enc a s e) w = λ v f. on-bare RuleNumber (FoundHolds (Enc a s e)) (bounded h encoded (pos s) (pos e)) v (right-constant (RuleNumber 5) f)
-      (is-bounded (FoundHolds (Enc a s e)) encoded (pos s) (pos e) (λ s l u. refl))
+  check-duty (Enc a s e) w = λ v f. on-bare RuleNumber (FoundHolds (Enc a s e)) (bounded h Founds.Encoded (pos s) (pos e)) v (right-constant (RuleNumber 5) f)
+      (is-bounded (FoundHolds (Enc a s e)) Founds.Encoded (pos s) (pos e) (λ s l u. refl))
   check-duty (Rs a c) w = check-one (Rs a c) a (λ s l. pos s -ℤ pos (h .factor * c)) (λ s l. pos l -ℤ pos c) (λ s l u. refl)
   check-duty (Ms a c) w = check-one (Ms a c) a (λ s l. pos s) (λ s l. pos l -ℤ pos c) (λ s l u. refl)
   check-duty (Us a b) w = check-one (Us a b) a (λ s l. pos (s + b)) (λ s l. pos l) (λ s l u. refl)

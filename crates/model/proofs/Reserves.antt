@@ -18,10 +18,14 @@ use Rattle.model.specs.Machine.{Step, goes, finished, run}
 use Rattle.model.specs.Rules.{Bounds}
 use Rattle.model.specs.Plan as Plan
 use Rattle.model.specs.declared.Placement.{Placement}
-use Rattle.model.specs.Plan.{Best, smaller, atWaterline, placeInput, placeAt, placeTimesConstant, placeConstantTimes, placeProduct, productAt, placed, onReserves, bestMachine}
+use Rattle.model.specs.declared.Best.{Best}
+use Rattle.model.specs.declared.Best.the-variants as Bests
+use Rattle.model.specs.Plan.{smaller, atWaterline, placeInput, placeAt, placeTimesConstant, placeConstantTimes, placeProduct, productAt, placed, onReserves, bestMachine}
 use Rattle.model.specs.Services.{erase, origins}
 use Rattle.model.specs.Refused as Refused
-use Rattle.model.specs.Refused.{Found, bounded, onPair, sum, product, checkMachine}
+use Rattle.model.specs.declared.Found.{Found}
+use Rattle.model.specs.declared.Found.the-variants as Founds
+use Rattle.model.specs.Refused.{bounded, onPair, sum, product, checkMachine}
 use Rattle.model.proofs.Lists.{nil3, front2, All2, beside, flip2}
 use Rattle.model.proofs.Kept.{Follows, Kept, run-kept, Finished, finish, idle}
 use Rattle.model.proofs.Erasing.{through, Erased, erased}
@@ -37,12 +41,12 @@ module _ (h : Header) where
 
   -- what the check finds of a schedule's line, against the best of its circuit line
   abbrev pub Bound : Found → Best → Unit {0} → Type 0
-  Bound Found.bare Best.constant u = Unit {0}
-  Bound Found.bare (Best.ciphertext p) u = ⊥
-  Bound (Found.encoded s l) Best.constant u = Bounds h s l
-  Bound (Found.encoded s l) (Best.ciphertext p) u = ⊥
-  Bound (Found.ciphertext s l) Best.constant u = ⊥
-  Bound (Found.ciphertext s l) (Best.ciphertext p) u = Within s l p
+  Bound Founds.Bare Bests.Constant u = Unit {0}
+  Bound Founds.Bare (Bests.Ciphertext p) u = ⊥
+  Bound (Founds.Encoded s l) Bests.Constant u = Bounds h s l
+  Bound (Founds.Encoded s l) (Bests.Ciphertext p) u = ⊥
+  Bound (Founds.Ciphertext s l) Bests.Constant u = ⊥
+  Bound (Founds.Ciphertext s l) (Bests.Ciphertext p) u = Within s l p
 
   abbrev Keeps : Step Found ℕ → Step Best ℕ → Type 0
   Keeps s t = Follows {E = ℕ} {D = ℕ} {G = Unit {0}} Bound s t (goes tt)
@@ -54,55 +58,55 @@ module _ (h : Header) where
   whole : {s l : ℕ} {p : Placement} → Within s l p → p .reserve ≡ pos (positive (p .reserve))
   whole {p} w = is-positive (p .reserve) (omega (signed, above w))
 
-  reaches : (s l : ℕ) (p : Placement) → Bounds h s l → reserve h s l ≤ℤ p .reserve → Keeps (goes (Found.ciphertext s l)) (placed h p)
-  reaches s l p b a = subst (Keeps (goes (Found.ciphertext s l))) (sym (placed-goes h p (above w))) w
+  reaches : (s l : ℕ) (p : Placement) → Bounds h s l → reserve h s l ≤ℤ p .reserve → Keeps (goes (Founds.Ciphertext s l)) (placed h p)
+  reaches s l p b a = subst (Keeps (goes (Founds.Ciphertext s l))) (sym (placed-goes h p (above w))) w
     where
       w : Within s l p
       w = record { bounds = b; at-most = a }
 
   module _ (F⁺ : zero < h .factor) (W⁺ : zero < h .waterline) where
     -- a line whose scale and level the check bounds
-    settles : (t : Step Best ℕ) (S L : ℤ) → ((s l : ℕ) → S ≡ pos s → L ≡ pos l → Bounds h s l → Keeps (goes (Found.ciphertext s l)) t) → Keeps (bounded h Found.ciphertext S L) t
-    settles t S L k = bounded-elim h W⁺ (λ u. Keeps u t) Found.ciphertext S L (λ n. tt) k
+    settles : (t : Step Best ℕ) (S L : ℤ) → ((s l : ℕ) → S ≡ pos s → L ≡ pos l → Bounds h s l → Keeps (goes (Founds.Ciphertext s l)) t) → Keeps (bounded h Founds.Ciphertext S L) t
+    settles t S L k = bounded-elim h W⁺ (λ u. Keeps u t) Founds.Ciphertext S L (λ n. tt) k
 
     pos-is : {m n : ℕ} → pos m ≡ pos n → m ≡ n
     pos-is e = ap positive e
 
-    on-ciphertext : (f : ℕ → ℕ → Step Found ℕ) (g : Best → Step Best ℕ) → ((s l : ℕ) (p : Placement) → Within s l p → Keeps (f s l) (g (Best.ciphertext p)))
+    on-ciphertext : (f : ℕ → ℕ → Step Found ℕ) (g : Best → Step Best ℕ) → ((s l : ℕ) (p : Placement) → Within s l p → Keeps (f s l) (g (Bests.Ciphertext p)))
         → (x : Found) (y : Best) (z : Unit {0}) → Bound x y z → Keeps (Refused.onCiphertext f x) (g y)
-    on-ciphertext f g k Found.bare y z r = tt
-    on-ciphertext f g k (Found.encoded s l) y z r = tt
-    on-ciphertext f g k (Found.ciphertext s l) Best.constant z r = absurd r
-    on-ciphertext f g k (Found.ciphertext s l) (Best.ciphertext p) z r = k s l p r
+    on-ciphertext f g k Founds.Bare y z r = tt
+    on-ciphertext f g k (Founds.Encoded s l) y z r = tt
+    on-ciphertext f g k (Founds.Ciphertext s l) Bests.Constant z r = absurd r
+    on-ciphertext f g k (Founds.Ciphertext s l) (Bests.Ciphertext p) z r = k s l p r
 
     -- two ciphertexts; a ciphertext and an encoded constant; an encoded constant and a ciphertext
     module _ (f : ℕ → ℕ → ℕ → ℕ → Step Found ℕ) (both : ℤ → ℤ → Step Best ℕ) (left right : ℤ → Step Best ℕ)
         (k : (s l s′ l′ : ℕ) (p q : Placement) → Within s l p → Within s′ l′ q → Keeps (f s l s′ l′) (both (p .reserve) (q .reserve)))
         (i : (s l s′ l′ : ℕ) (p : Placement) → Within s l p → Bounds h s′ l′ → Keeps (f s l s′ l′) (left (p .reserve)))
         (j : (s l s′ l′ : ℕ) (q : Placement) → Bounds h s l → Within s′ l′ q → Keeps (f s l s′ l′) (right (q .reserve))) where
-      after-ciphertext : (s l : ℕ) (p : Placement) → Within s l p → (x′ : Found) (y′ : Best) (z′ : Unit {0}) → Bound x′ y′ z′ → Keeps (onPair f (Found.ciphertext s l) x′) (onReserves both left right (Best.ciphertext p) y′)
-      after-ciphertext s l p w Found.bare y′ z′ r = tt
-      after-ciphertext s l p w (Found.encoded s′ l′) Best.constant z′ r = i s l s′ l′ p w r
-      after-ciphertext s l p w (Found.encoded s′ l′) (Best.ciphertext q) z′ r = absurd r
-      after-ciphertext s l p w (Found.ciphertext s′ l′) Best.constant z′ r = absurd r
-      after-ciphertext s l p w (Found.ciphertext s′ l′) (Best.ciphertext q) z′ r = k s l s′ l′ p q w r
+      after-ciphertext : (s l : ℕ) (p : Placement) → Within s l p → (x′ : Found) (y′ : Best) (z′ : Unit {0}) → Bound x′ y′ z′ → Keeps (onPair f (Founds.Ciphertext s l) x′) (onReserves both left right (Bests.Ciphertext p) y′)
+      after-ciphertext s l p w Founds.Bare y′ z′ r = tt
+      after-ciphertext s l p w (Founds.Encoded s′ l′) Bests.Constant z′ r = i s l s′ l′ p w r
+      after-ciphertext s l p w (Founds.Encoded s′ l′) (Bests.Ciphertext q) z′ r = absurd r
+      after-ciphertext s l p w (Founds.Ciphertext s′ l′) Bests.Constant z′ r = absurd r
+      after-ciphertext s l p w (Founds.Ciphertext s′ l′) (Bests.Ciphertext q) z′ r = k s l s′ l′ p q w r
 
       on-pair : (x : Found) (y : Best) (z : Unit {0}) → Bound x y z → (x′ : Found) (y′ : Best) (z′ : Unit {0}) → Bound x′ y′ z′ → Keeps (onPair f x x′) (onReserves both left right y y′)
-      on-pair Found.bare y z r x′ y′ z′ r′ = tt
-      on-pair (Found.encoded s l) Best.constant z r x′ y′ z′ r′ = on-ciphertext (f s l) (onReserves both left right Best.constant) (λ s′ l′ q w. j s l s′ l′ q r w) x′ y′ z′ r′
-      on-pair (Found.encoded s l) (Best.ciphertext p) z r x′ y′ z′ r′ = absurd r
-      on-pair (Found.ciphertext s l) Best.constant z r x′ y′ z′ r′ = absurd r
-      on-pair (Found.ciphertext s l) (Best.ciphertext p) z r x′ y′ z′ r′ = after-ciphertext s l p r x′ y′ z′ r′
+      on-pair Founds.Bare y z r x′ y′ z′ r′ = tt
+      on-pair (Founds.Encoded s l) Bests.Constant z r x′ y′ z′ r′ = on-ciphertext (f s l) (onReserves both left right Bests.Constant) (λ s′ l′ q w. j s l s′ l′ q r w) x′ y′ z′ r′
+      on-pair (Founds.Encoded s l) (Bests.Ciphertext p) z r x′ y′ z′ r′ = absurd r
+      on-pair (Founds.Ciphertext s l) Bests.Constant z r x′ y′ z′ r′ = absurd r
+      on-pair (Founds.Ciphertext s l) (Bests.Ciphertext p) z r x′ y′ z′ r′ = after-ciphertext s l p r x′ y′ z′ r′
 
     -- `neg`, `rot`, `out`: neither scale nor level changes
-    unchanged : (t : Step Best ℕ) (s l : ℕ) → ((b : Bounds h s l) → Keeps (goes (Found.ciphertext s l)) t) → Keeps (bounded h Found.ciphertext (pos s) (pos l)) t
-    unchanged t s l k = settles t (pos s) (pos l) (λ s′ l′ e e′ b. subst (λ (m : ℕ). Keeps (goes (Found.ciphertext m l′)) t) (pos-is e) (subst (λ (m : ℕ). Keeps (goes (Found.ciphertext s m)) t) (pos-is e′)
+    unchanged : (t : Step Best ℕ) (s l : ℕ) → ((b : Bounds h s l) → Keeps (goes (Founds.Ciphertext s l)) t) → Keeps (bounded h Founds.Ciphertext (pos s) (pos l)) t
+    unchanged t s l k = settles t (pos s) (pos l) (λ s′ l′ e e′ b. subst (λ (m : ℕ). Keeps (goes (Founds.Ciphertext m l′)) t) (pos-is e) (subst (λ (m : ℕ). Keeps (goes (Founds.Ciphertext s m)) t) (pos-is e′)
         (k (subst (λ (m : ℕ). Bounds h m l) (sym (pos-is e)) (subst (λ (m : ℕ). Bounds h s′ m) (sym (pos-is e′)) b)))))
 
-    sums : (t : Step Best ℕ) (s l s′ l′ : ℕ) → (l ≡ l′ → s ≡ s′ → Bounds h s l → Keeps (goes (Found.ciphertext s l)) t) → Keeps (sum h s l s′ l′) t
+    sums : (t : Step Best ℕ) (s l s′ l′ : ℕ) → (l ≡ l′ → s ≡ s′ → Bounds h s l → Keeps (goes (Founds.Ciphertext s l)) t) → Keeps (sum h s l s′ l′) t
     sums t s l s′ l′ k = sum-cases h (λ u. Keeps u t) s l s′ l′ (λ e e′. unchanged t s l (k e e′)) (λ e. tt) (λ e. tt)
 
-    products : (t : Step Best ℕ) (s l s′ l′ : ℕ) → (l ≡ l′ → Bounds h (s + s′) l → Keeps (goes (Found.ciphertext (s + s′) l)) t) → Keeps (product h s l s′ l′) t
+    products : (t : Step Best ℕ) (s l s′ l′ : ℕ) → (l ≡ l′ → Bounds h (s + s′) l → Keeps (goes (Founds.Ciphertext (s + s′) l)) t) → Keeps (product h s l s′ l′) t
     products t s l s′ l′ k = product-cases h (λ u. Keeps u t) s l s′ l′ (λ e. unchanged t (s + s′) l (k e)) (λ e. tt)
 
     -- the parts of a reserve
@@ -155,8 +159,8 @@ module _ (h : Header) where
         (omega (signed, w .at-most, b .low, ap (reserve h s′) e, parts s′ l, parts (s + s′) l, parts- (q .reserve) (pos (h .waterline)))))
 
     -- a scale operation spends reserve or keeps it: s′ bits at level l′ are no better than s at l
-    spends : (p : Placement) (S L : ℤ) (s l : ℕ) → Within s l p → ((s′ l′ : ℕ) → S ≡ pos s′ → L ≡ pos l′ → h .factor * l′ + s ≤ h .factor * l + s′) → Keeps (bounded h Found.ciphertext S L) (goes (Best.ciphertext p))
-    spends p S L s l w k = settles (goes (Best.ciphertext p)) S L (λ s′ l′ e e′ b. record { bounds = b; at-most = omega (signed, w .at-most, k s′ l′ e e′, parts s l, parts s′ l′) })
+    spends : (p : Placement) (S L : ℤ) (s l : ℕ) → Within s l p → ((s′ l′ : ℕ) → S ≡ pos s′ → L ≡ pos l′ → h .factor * l′ + s ≤ h .factor * l + s′) → Keeps (bounded h Founds.Ciphertext S L) (goes (Bests.Ciphertext p))
+    spends p S L s l w k = settles (goes (Bests.Ciphertext p)) S L (λ s′ l′ e e′ b. record { bounds = b; at-most = omega (signed, w .at-most, k s′ l′ e e′, parts s l, parts s′ l′) })
 
     -- what is left of a natural number
     left-of : (a b c : ℕ) → pos a -ℤ pos b ≡ pos c → a ≡ c + b
@@ -165,22 +169,22 @@ module _ (h : Header) where
     levels : (c l l′ : ℕ) → l ≡ l′ + c → h .factor * l ≡ h .factor * l′ + h .factor * c
     levels c l l′ e = ap (λ (k : ℕ). h .factor * k) e ∙ mul-add (h .factor) l′ c
 
-    rescales : (c s l : ℕ) (p : Placement) → Within s l p → Keeps (bounded h Found.ciphertext (pos s -ℤ pos (h .factor * c)) (pos l -ℤ pos c)) (goes (Best.ciphertext p))
+    rescales : (c s l : ℕ) (p : Placement) → Within s l p → Keeps (bounded h Founds.Ciphertext (pos s -ℤ pos (h .factor * c)) (pos l -ℤ pos c)) (goes (Bests.Ciphertext p))
     rescales c s l p w = spends p (pos s -ℤ pos (h .factor * c)) (pos l -ℤ pos c) s l w (λ s′ l′ e e′. omega (arith, left-of s (h .factor * c) s′ e, levels c l l′ (left-of l c l′ e′)))
 
-    switches : (c s l : ℕ) (p : Placement) → Within s l p → Keeps (bounded h Found.ciphertext (pos s) (pos l -ℤ pos c)) (goes (Best.ciphertext p))
+    switches : (c s l : ℕ) (p : Placement) → Within s l p → Keeps (bounded h Founds.Ciphertext (pos s) (pos l -ℤ pos c)) (goes (Bests.Ciphertext p))
     switches c s l p w = spends p (pos s) (pos l -ℤ pos c) s l w (λ s′ l′ e e′. omega (arith, pos-is e, levels c l l′ (left-of l c l′ e′)))
 
-    upscales : (b s l : ℕ) (p : Placement) → Within s l p → Keeps (bounded h Found.ciphertext (pos (s + b)) (pos l)) (goes (Best.ciphertext p))
+    upscales : (b s l : ℕ) (p : Placement) → Within s l p → Keeps (bounded h Founds.Ciphertext (pos (s + b)) (pos l)) (goes (Bests.Ciphertext p))
     upscales b s l p w = spends p (pos (s + b)) (pos l) s l w (λ s′ l′ e e′. omega (arith, pos-is e, ap (λ (k : ℕ). h .factor * k) (pos-is e′)))
 
-    encodes : (s e : ℕ) (x : Found) (y : Best) (z : Unit {0}) → Bound x y z → Keeps (Refused.onBare (bounded h Found.encoded (pos s) (pos e)) x) (goes y)
-    encodes s e Found.bare Best.constant z r = bounded-elim h W⁺ (λ u. Keeps u (goes Best.constant)) Found.encoded (pos s) (pos e) (λ n. tt) (λ s′ l′ p q b. b)
-    encodes s e Found.bare (Best.ciphertext p) z r = absurd r
-    encodes s e (Found.encoded s′ l′) y z r = tt
-    encodes s e (Found.ciphertext s′ l′) y z r = tt
+    encodes : (s e : ℕ) (x : Found) (y : Best) (z : Unit {0}) → Bound x y z → Keeps (Refused.onBare (bounded h Founds.Encoded (pos s) (pos e)) x) (goes y)
+    encodes s e Founds.Bare Bests.Constant z r = bounded-elim h W⁺ (λ u. Keeps u (goes Bests.Constant)) Founds.Encoded (pos s) (pos e) (λ n. tt) (λ s′ l′ p q b. b)
+    encodes s e Founds.Bare (Bests.Ciphertext p) z r = absurd r
+    encodes s e (Founds.Encoded s′ l′) y z r = tt
+    encodes s e (Founds.Ciphertext s′ l′) y z r = tt
 
-    again : (s l : ℕ) (p : Placement) → Within s l p → Keeps (bounded h Found.ciphertext (pos s) (pos l)) (placed h (placeAt h (p .reserve)))
+    again : (s l : ℕ) (p : Placement) → Within s l p → Keeps (bounded h Founds.Ciphertext (pos s) (pos l)) (placed h (placeAt h (p .reserve)))
     again s l p w = unchanged (placed h (placeAt h (p .reserve))) s l (λ b. reaches s l (placeAt h (p .reserve)) b (w .at-most))
 
     pub reserves-kept : Kept (checkMachine h) (through (bestMachine h)) idle Bound
@@ -192,7 +196,7 @@ module _ (h : Header) where
           rot = λ t. on-ciphertext _ (Plan.onCiphertext (λ p. placed h (placeAt h (p .reserve)))) again;
           add = on-pair (sum h) (λ r r′. placed h (placeAt h (smaller r r′))) (λ r. placed h (placeAt h r)) (λ r. placed h (placeAt h r)) add-both add-left add-right;
           mul = on-pair (product h) (λ r r′. placed h (placeProduct h r r′)) (λ r. placed h (placeTimesConstant h r)) (λ r. placed h (placeConstantTimes h r)) mul-both mul-left mul-right;
-          out = on-ciphertext _ (Plan.onCiphertext (λ p. goes (Best.ciphertext p))) (λ s l p w. unchanged (goes (Best.ciphertext p)) s l (λ b. w));
+          out = on-ciphertext _ (Plan.onCiphertext (λ p. goes (Bests.Ciphertext p))) (λ s l p w. unchanged (goes (Bests.Ciphertext p)) s l (λ b. w));
           enc = encodes;
           rs = λ c. on-ciphertext _ goes (rescales c);
           ms = λ c. on-ciphertext _ goes (switches c);
@@ -208,12 +212,12 @@ module _ (h : Header) where
       pub bound : Bound f value tt
 
     -- what a schedule that passes the check says of its circuit
-    pub record Bests (s : List Line) (found : List Found) : Type 0 where
+    pub record AllBest (s : List Line) (found : List Found) : Type 0 where
       pub best : List Best
       pub runs : run (bestMachine h) (erase s) ≡ finished best
       pub lines : (i : ℕ) (f : Found) → getElem? found i ≡ some f → AtBest s best i f
 
-    pub reserve-bound : (s : List Line) {found : List Found} → run (checkMachine h) s ≡ finished found → Bests s found
+    pub reserve-bound : (s : List Line) {found : List Found} → run (checkMachine h) s ≡ finished found → AllBest s found
     reserve-bound s {found} e =
         record {
           best = E .held;

@@ -23,7 +23,9 @@ use Rattle.model.specs.Files.{kindAt, isCiphertext, isEncoded, isUsable,
 use Rattle.model.specs.Machine.{Step, finished, andThen, operand, step, run}
 use Rattle.model.specs.Rules.{Rule, Bounds, hasScale, KeepsRules}
 use Rattle.model.specs.Machines.{Vector, Handed, Reason, levelsDiffer, scalesDiffer, remainder, belowWaterline, aboveModulus, Holding, bare, scaled, slotwise, rotated, timesTwoTo, overTwoTo, noRemainder, stopIf, holds, onScaled, onBare, scaledSum, scaledProduct, rescaled, plainMachine, scaleMachine}
-use Rattle.model.specs.Refused.{Found, checkMachine}
+use Rattle.model.specs.declared.Found.{Found}
+use Rattle.model.specs.declared.Found.the-variants as Founds
+use Rattle.model.specs.Refused.{checkMachine}
 use Rattle.model.proofs.Statements.ScaleMachine as ScaleMachine
 use Rattle.model.proofs.Tests.{header-facts}
 use Rattle.model.proofs.Lists.{found-is, front2, beside}
@@ -161,9 +163,9 @@ abbrev SameNumbers : Found → Holding → Type 0
 SameNumbers x y = T (isCiphertext (foundKind x) || isEncoded (foundKind x)) → (v : Vector) × (y ≡ scaled (checked.scaleOf x) (checked.levelOf x) v)
 
 agree-numbers : (H : Handed) (h : Header) (x : Found) (y : Holding) (w : Vector) → Agree H h x y w → SameNumbers x y
-agree-numbers H h Found.bare y w a c = absurd c
-agree-numbers H h (Found.encoded s l) y w a c = (timesTwoTo s w, a .held)
-agree-numbers H h (Found.ciphertext s l) y w a c = (timesTwoTo s w, a .held)
+agree-numbers H h Founds.Bare y w a c = absurd c
+agree-numbers H h (Founds.Encoded s l) y w a c = (timesTwoTo s w, a .held)
+agree-numbers H h (Founds.Ciphertext s l) y w a c = (timesTwoTo s w, a .held)
 
 -- what has a scale can be named
 scale-usable : (k : Kind) → T (isCiphertext k || isEncoded k) → T (isUsable k)

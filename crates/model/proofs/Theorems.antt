@@ -22,10 +22,14 @@ use Rattle.model.specs.Scales.{withTop, headerInRange, reserve}
 use Rattle.model.specs.Files.{File, placeOf, wellFormed, kindOf, kindAt, isCiphertext, isEncoded, isUsable, lineFormed, linesFormed}
 use Rattle.model.specs.Machine.{Run, finished, stopped, run}
 use Rattle.model.specs.Rules.{KeepsRules}
-use Rattle.model.specs.Plan.{Best, bestMachine, placeProduct, planLines}
+use Rattle.model.specs.declared.Best.{Best}
+use Rattle.model.specs.declared.Best.the-variants as Bests
+use Rattle.model.specs.Plan.{bestMachine, placeProduct, planLines}
 use Rattle.model.specs.Services.{origins, Planned, written, refused, plan, leastLevel}
 use Rattle.model.specs.Refused as Refused
-use Rattle.model.specs.Refused.{Found, checkMachine, rulesAnswer}
+use Rattle.model.specs.declared.Found.{Found}
+use Rattle.model.specs.declared.Found.the-variants as Founds
+use Rattle.model.specs.Refused.{checkMachine, rulesAnswer}
 use Rattle.model.specs.Demands.{Passed, Schedulable, IsLeastLevel}
 use Rattle.model.proofs.Statements.LowestLevel as LowestLevel
 use Rattle.model.proofs.Statements.Products as ProductStatement
@@ -48,7 +52,7 @@ use Rattle.model.proofs.Runs.{stopped-finished, first-stop}
 use Rattle.model.proofs.Floor.{floor-is}
 use Rattle.model.proofs.Levels.{level-fits, level-least}
 use Rattle.model.proofs.Products.{optimal}
-use Rattle.model.proofs.Reserves.{Bound, AtBest, Bests, reserve-bound}
+use Rattle.model.proofs.Reserves.{Bound, AtBest, AllBest, reserve-bound}
 use Rattle.model.proofs.Higher.{fits-higher}
 use Rattle.model.proofs.Formed.{well-header, well-lines, well-take}
 use Rattle.model.proofs.Checked.{checked-keeps, keeps-checked, keeps-agrees, verdict, Agrees, foundKind, scaleOf, levelOf}
@@ -128,23 +132,23 @@ scale-machine = is-the-rules
 
 -- ---- the reserve bound
 -- the check's finding of a ciphertext has the numbers that keep the rules
-ciphertext-is : (h : Header) (scale level : ℕ → ℕ) (i : ℕ) (k : Kind) (f : Found) → k ≡ Ciphertext → Agrees h scale level i k f → f ≡ Found.ciphertext (scale i) (level i)
+ciphertext-is : (h : Header) (scale level : ℕ → ℕ) (i : ℕ) (k : Kind) (f : Found) → k ≡ Ciphertext → Agrees h scale level i k f → f ≡ Founds.Ciphertext (scale i) (level i)
 ciphertext-is h scale level i k f e a = go f (a .kind ∙ e) (a .scale-is numbers) (a .level-is numbers)
   where
     numbers : T (isCiphertext k || isEncoded k)
     numbers = subst (λ (j : Kind). T (isCiphertext j || isEncoded j)) (sym e) tt
 
-    go : (f : Found) → foundKind f ≡ Ciphertext → scaleOf f ≡ scale i → levelOf f ≡ level i → f ≡ Found.ciphertext (scale i) (level i)
-    go Found.bare p q r = absurd (let z : _≡_ {A = ℕ} 0 1 = cc in omega arith)
-    go (Found.encoded s l) p q r = absurd (let z : _≡_ {A = ℕ} 0 1 = cc in omega arith)
-    go (Found.ciphertext s l) p q r = ap₂ Found.ciphertext q r
+    go : (f : Found) → foundKind f ≡ Ciphertext → scaleOf f ≡ scale i → levelOf f ≡ level i → f ≡ Founds.Ciphertext (scale i) (level i)
+    go Founds.Bare p q r = absurd (let z : _≡_ {A = ℕ} 0 1 = cc in omega arith)
+    go (Founds.Encoded s l) p q r = absurd (let z : _≡_ {A = ℕ} 0 1 = cc in omega arith)
+    go (Founds.Ciphertext s l) p q r = ap₂ Founds.Ciphertext q r
 
 usable-ciphertext : (k : Kind) → k ≡ Ciphertext → T (isUsable k)
 usable-ciphertext k e = subst (λ (j : Kind). T (isUsable j)) (sym e) tt
 
 -- at a ciphertext line the check finds the numbers of every way to keep the rules
 found-numbers : (h : Header) (s : List Line) (t : T (wellFormed Schedule h s)) (K : KeepsRules h s) {found : List Found} → run (checkMachine h) s ≡ finished found
-    → (i : ℕ) → kindAt s i ≡ Ciphertext → getElem? found i ≡ some (Found.ciphertext (K .scale i) (K .level i))
+    → (i : ℕ) → kindAt s i ≡ Ciphertext → getElem? found i ≡ some (Founds.Ciphertext (K .scale i) (K .level i))
 found-numbers h s t K {found} e i k =
     let r = keeps-agrees h s t K in
     let n = r .2 .named i (usable-ciphertext (kindAt s i) k) in
@@ -167,14 +171,14 @@ bound h circuit s t K e =
     F : (found : List Found) × (run (checkMachine h) s ≡ finished found)
     F = keeps-checked h s t K
 
-    B : Bests h (H .factor .least) (H .waterline .least) s (F .0)
+    B : AllBest h (H .factor .least) (H .waterline .least) s (F .0)
     B = reserve-bound h (H .factor .least) (H .waterline .least) s (F .1)
 
-    by-value : (i : ℕ) (b : Best) → Bound h (Found.ciphertext (K .scale i) (K .level i)) b tt → (from : ℕ) → getElem? (origins s) i ≡ some from → getElem? (B .best) from ≡ some b → ReserveBound.AtMostBest h s K (B .best) i
-    by-value i Best.constant w from p q = absurd w
-    by-value i (Best.ciphertext p) w from q r = record { from = from; placement = p; comes-from = q; best-is = r; at-most = w .at-most }
+    by-value : (i : ℕ) (b : Best) → Bound h (Founds.Ciphertext (K .scale i) (K .level i)) b tt → (from : ℕ) → getElem? (origins s) i ≡ some from → getElem? (B .best) from ≡ some b → ReserveBound.AtMostBest h s K (B .best) i
+    by-value i Bests.Constant w from p q = absurd w
+    by-value i (Bests.Ciphertext p) w from q r = record { from = from; placement = p; comes-from = q; best-is = r; at-most = w .at-most }
 
-    at-most : (i : ℕ) → AtBest h (H .factor .least) (H .waterline .least) s (B .best) i (Found.ciphertext (K .scale i) (K .level i)) → ReserveBound.AtMostBest h s K (B .best) i
+    at-most : (i : ℕ) → AtBest h (H .factor .least) (H .waterline .least) s (B .best) i (Founds.Ciphertext (K .scale i) (K .level i)) → ReserveBound.AtMostBest h s K (B .best) i
     at-most i a = by-value i (a .value) (a .bound) (a .from) (a .comes-from) (a .best-is)
 
 -- ---- the plan
@@ -218,7 +222,7 @@ module _ (circuit : File) (t : T (wellFormed Circuit (circuit .header) (circuit 
 
     attains : (K : KeepsRules h s) (j : ℕ) → j < length (circuit .lines) → T (isCiphertext (kindOf (getD (circuit .lines) j Free)))
         → ThePlan.AttainsBest (record { header = circuit .header; lines = s }) K best j
-    attains K j u c = by-value (getD best j Best.constant) (found-at best j Best.constant (omega (arith, P .long)))
+    attains K j u c = by-value (getD best j Bests.Constant) (found-at best j Bests.Constant (omega (arith, P .long)))
       where
         x : Line
         x = getD (circuit .lines) j Free
@@ -233,27 +237,27 @@ module _ (circuit : File) (t : T (wellFormed Circuit (circuit .header) (circuit 
         kind = is-ciphertext (kindOf x) c
 
         by-value : (b : Best) → getElem? best j ≡ some b → ThePlan.AttainsBest (record { header = circuit .header; lines = s }) K best j
-        by-value Best.constant q = absurd (never (sym kind ∙ P .kinds j x Best.constant there q (usable-ciphertext (kindOf x) kind)))
+        by-value Bests.Constant q = absurd (never (sym kind ∙ P .kinds j x Bests.Constant there q (usable-ciphertext (kindOf x) kind)))
           where
             never : _≡_ {A = Kind} Ciphertext Rattle.model.specs.declared.Kind.the-variants.Constant → ⊥
             never p = let z : _≡_ {A = ℕ} 0 1 = cc in omega arith
-        by-value (Best.ciphertext p) q =
+        by-value (Bests.Ciphertext p) q =
             record {
               line = i;
               placement = p;
               kept = ap (λ (l : List ℕ). getElem? l j) (P .sound .kept-are) ∙ found-at (whole .numbers) j 0 (omega (arith, P .counted));
               best-is = q;
-              reserve-is = ap₂ (reserve h) (sym (numbers .0)) (sym (numbers .1)) ∙ scale-leaves (p .reserve) (p .level) (P .valid j (Best.ciphertext p) q);
+              reserve-is = ap₂ (reserve h) (sym (numbers .0)) (sym (numbers .1)) ∙ scale-leaves (p .reserve) (p .level) (P .valid j (Bests.Ciphertext p) q);
               level-is = sym (numbers .1);
             }
           where
-            S : Stands h s i (foundFor h H (Best.ciphertext p)) (kindOf x) j
-            S = P .entry j x (Best.ciphertext p) there q
+            S : Stands h s i (foundFor h H (Bests.Ciphertext p)) (kindOf x) j
+            S = P .entry j x (Bests.Ciphertext p) there q
 
             line-kind : kindAt s i ≡ Ciphertext
             line-kind = ap kindOf (found-is s i Free (S .there)) ∙ S .kind ∙ kind
 
-            both : _≡_ {A = Option Found} (some (Found.ciphertext (scaleAt h H (p .reserve) (p .level)) (p .level))) (some (Found.ciphertext (K .scale i) (K .level i)))
+            both : _≡_ {A = Option Found} (some (Founds.Ciphertext (scaleAt h H (p .reserve) (p .level)) (p .level))) (some (Founds.Ciphertext (K .scale i) (K .level i)))
             both = sym (S .found) ∙ found-numbers h s formed K (P .sound .checks) i line-kind
 
             numbers : (scaleAt h H (p .reserve) (p .level) ≡ K .scale i) × (p .level ≡ K .level i)
@@ -354,7 +358,7 @@ lines-at-top h l (x ∷ xs) before t =
     (line-at-top h l before x (and-first (lineFormed Circuit h before x) (linesFormed Circuit h (before ++ (x ∷ [])) xs) t))
     (lines-at-top h l xs (before ++ (x ∷ [])) (and-second (lineFormed Circuit h before x) (linesFormed Circuit h (before ++ (x ∷ [])) xs) t))
 
-formed-at-top : (h : Header) (c : List Line) → T (wellFormed Circuit h c) → (l : ℕ) → 1 ≤ l → l ≤ 60 → T (wellFormed Circuit (withTop h l) c)
+pub formed-at-top : (h : Header) (c : List Line) → T (wellFormed Circuit h c) → (l : ℕ) → 1 ≤ l → l ≤ 60 → T (wellFormed Circuit (withTop h l) c)
 formed-at-top h c t l a b =
     let H = header-facts h (well-header Circuit h c t) in
     and-both (headerInRange (withTop h l)) (linesFormed Circuit (withTop h l) [] c) (header-passes (withTop h l) (record { factor = H .factor; waterline = H .waterline; top = record { least = a; most = b } }))

@@ -10,6 +10,8 @@ use Rattle.ints.specs.Parts.{positive}
 use Rattle.model.specs.declared.Header.{Header}
 use Rattle.model.specs.declared.Line.{Line}
 use Rattle.model.specs.declared.Placement.{Placement}
+use Rattle.model.specs.declared.Best.{Best}
+use Rattle.model.specs.declared.Best.the-variants as Bests
 use Rattle.model.specs.declared.Line.the-variants.{In, Const, Neg, Rot, Add, Mul, Out, Enc, Rs, Ms, Us, Free}
 use Rattle.model.specs.Scales.{modulus, reserve, floor}
 use Rattle.model.specs.Machine.{Step, goes, stops, Machine}
@@ -81,25 +83,20 @@ placeProduct h r r′ =
 abbrev pub productAt : Header → ℤ → ℤ → ℕ → ℤ
 productAt h r r′ l = smaller r (atWaterline h l) +ℤ smaller r′ (atWaterline h l) -ℤ pos (modulus h l)
 
--- What the plan knows of a circuit line: a bare constant, or a ciphertext and how it is done.
-pub data Best : Type 0 where
-  constant : Best
-  ciphertext : Placement → Best
-
 -- "The best reserve may come out below zero; then the circuit is refused at that line."
 abbrev pub placed : Header → Placement → Step Best ℕ
-placed h p = cond (ltZ (p .reserve) (pos (floor h))) (stops 6) (goes (ciphertext p))
+placed h p = cond (ltZ (p .reserve) (pos (floor h))) (stops 6) (goes (Bests.Ciphertext p))
 
 abbrev pub onCiphertext : (Placement → Step Best ℕ) → Best → Step Best ℕ
-onCiphertext f constant = stops 5
-onCiphertext f (ciphertext p) = f p
+onCiphertext f Bests.Constant = stops 5
+onCiphertext f (Bests.Ciphertext p) = f p
 
 -- both: on two ciphertexts' reserves; left, right: on the reserve of the one ciphertext, in the first or in the second place
 abbrev pub onReserves : (ℤ → ℤ → Step Best ℕ) → (ℤ → Step Best ℕ) → (ℤ → Step Best ℕ) → Best → Best → Step Best ℕ
-onReserves both left right constant constant = stops 5
-onReserves both left right constant (ciphertext q) = right (q .reserve)
-onReserves both left right (ciphertext p) constant = left (p .reserve)
-onReserves both left right (ciphertext p) (ciphertext q) = both (p .reserve) (q .reserve)
+onReserves both left right Bests.Constant Bests.Constant = stops 5
+onReserves both left right Bests.Constant (Bests.Ciphertext q) = right (q .reserve)
+onReserves both left right (Bests.Ciphertext p) Bests.Constant = left (p .reserve)
+onReserves both left right (Bests.Ciphertext p) (Bests.Ciphertext q) = both (p .reserve) (q .reserve)
 
 -- "Work through the circuit in order." The best reserve of each line, or 6 at the first whose best reserve is below zero. The stops
 -- with 1, 4 and 5 are for lines that no well-formed circuit has.
@@ -108,13 +105,13 @@ bestMachine h =
     record {
       absent = 4;
       input = λ k. placed h (placeInput h);
-      constant = λ k. goes constant;
+      constant = λ k. goes Bests.Constant;
       neg = λ x. onCiphertext (λ p. placed h (placeAt h (p .reserve))) x;
       rot = λ x t. onCiphertext (λ p. placed h (placeAt h (p .reserve))) x;
       add = λ x y. onReserves (λ r r′. placed h (placeAt h (smaller r r′))) (λ r. placed h (placeAt h r)) (λ r. placed h (placeAt h r)) x y;
       mul = λ x y. onReserves (λ r r′. placed h (placeProduct h r r′)) (λ r. placed h (placeTimesConstant h r)) (λ r. placed h (placeConstantTimes h r)) x y;
       -- "`out` names the value as it is"
-      out = λ x. onCiphertext (λ p. goes (ciphertext p)) x;
+      out = λ x. onCiphertext (λ p. goes (Bests.Ciphertext p)) x;
       enc = λ x s e. stops 1;
       rs = λ x c. stops 1;
       ms = λ x c. stops 1;
@@ -158,13 +155,13 @@ scaleFor h r l = positive (pos (modulus h l) -ℤ r)
 
 -- An operand, brought to reserve r at level l; "each use gets its own `enc`".
 abbrev pub supply : Header → Best → ℤ → ℕ → Draft → Draft
-supply h constant r l draft = emitConversion (draft .lines) (Enc (draft .number) (scaleFor h r l) l)
-supply h (ciphertext p) r l draft = bring h (p .reserve) (p .level) r l draft
+supply h Bests.Constant r l draft = emitConversion (draft .lines) (Enc (draft .number) (scaleFor h r l) l)
+supply h (Bests.Ciphertext p) r l draft = bring h (p .reserve) (p .level) r l draft
 
 -- How a line is done, where it is a ciphertext.
 abbrev pub placementOf : Best → Placement
-placementOf constant = record { level = 0; reserve = pos 0; first = pos 0; second = pos 0 }
-placementOf (ciphertext p) = p
+placementOf Bests.Constant = record { level = 0; reserve = pos 0; first = pos 0; second = pos 0 }
+placementOf (Bests.Ciphertext p) = p
 
 -- best: of each circuit line; numbers: for each circuit line so far its value number in the schedule
 module _ (h : Header) (best : List Best) (numbers : List ℕ) where
@@ -174,7 +171,7 @@ module _ (h : Header) (best : List Best) (numbers : List ℕ) where
   -- operand a at the line's level and reserve r
   abbrev pub operandTo : Placement → ℤ → ℕ → List Line → Draft
   operandTo p r a lines =
-      supply h (getD best a constant) r (p .level) (record { lines = lines; number = numberOf a })
+      supply h (getD best a Bests.Constant) r (p .level) (record { lines = lines; number = numberOf a })
 
   abbrev pub planOne : Placement → (ℕ → Line) → ℕ → List Line → Draft
   planOne p word a lines =
@@ -207,7 +204,7 @@ module _ (h : Header) (best : List Best) (numbers : List ℕ) where
 abbrev pub planFrom : Header → List Best → List ℕ → List Line → List Line → List Line
 planFrom h best numbers lines [] = lines
 planFrom h best numbers lines (x ∷ xs) =
-    let d = planLine h best numbers (placementOf (getD best (length numbers) constant)) x lines in
+    let d = planLine h best numbers (placementOf (getD best (length numbers) Bests.Constant)) x lines in
     planFrom h best (numbers ++ (d .number ∷ [])) (d .lines) xs
 
 -- The plan of a circuit whose lines are done as `best` says.

@@ -11,6 +11,8 @@ use Rattle.model.specs.declared.Line.{Line}
 use Rattle.model.specs.declared.Line.the-variants.{In, Const, Neg, Rot, Add, Mul, Out, Enc, Rs, Ms, Us, Free}
 use Rattle.model.specs.declared.Answer.{Answer}
 use Rattle.model.specs.declared.Answer.the-variants.{Done, Level, Refused}
+use Rattle.model.specs.declared.Found.{Found}
+use Rattle.model.specs.declared.Found.the-variants as Founds
 use Rattle.model.specs.Scales.{floor}
 use Rattle.model.specs.Files.{placeOf, File}
 use Rattle.model.specs.Machine.{Step, goes, stops, Machine, finished, stopped, run}
@@ -40,12 +42,6 @@ answerLevel Done = 0
 answerLevel (Level l) = l
 answerLevel (Refused n p) = 0
 
--- What the check finds of a line: a bare constant, or a scale and a level.
-pub data Found : Type 0 where
-  bare : Found
-  encoded : ℕ → ℕ → Found
-  ciphertext : ℕ → ℕ → Found
-
 -- "10 scale below W. 9 scale above F·level.", in this order. "A `rs` or `ms` past zero counts as a negative result."
 abbrev pub bounded : Header → (ℕ → ℕ → Found) → ℤ → ℤ → Step Found ℕ
 bounded h found s l =
@@ -55,47 +51,47 @@ bounded h found s l =
 
 -- "5 operand of the wrong kind": a well-formed schedule has none.
 abbrev pub onBare : Step Found ℕ → Found → Step Found ℕ
-onBare r bare = r
-onBare r (encoded s l) = stops 5
-onBare r (ciphertext s l) = stops 5
+onBare r Founds.Bare = r
+onBare r (Founds.Encoded s l) = stops 5
+onBare r (Founds.Ciphertext s l) = stops 5
 
 abbrev pub onCiphertext : (ℕ → ℕ → Step Found ℕ) → Found → Step Found ℕ
-onCiphertext f bare = stops 5
-onCiphertext f (encoded s l) = stops 5
-onCiphertext f (ciphertext s l) = f s l
+onCiphertext f Founds.Bare = stops 5
+onCiphertext f (Founds.Encoded s l) = stops 5
+onCiphertext f (Founds.Ciphertext s l) = f s l
 
 -- two ciphertexts, or one and an encoded constant, in either place
 abbrev pub onPair : (ℕ → ℕ → ℕ → ℕ → Step Found ℕ) → Found → Found → Step Found ℕ
-onPair f bare y = stops 5
-onPair f (encoded s l) y = onCiphertext (f s l) y
-onPair f (ciphertext s l) bare = stops 5
-onPair f (ciphertext s l) (encoded s′ l′) = f s l s′ l′
-onPair f (ciphertext s l) (ciphertext s′ l′) = f s l s′ l′
+onPair f Founds.Bare y = stops 5
+onPair f (Founds.Encoded s l) y = onCiphertext (f s l) y
+onPair f (Founds.Ciphertext s l) Founds.Bare = stops 5
+onPair f (Founds.Ciphertext s l) (Founds.Encoded s′ l′) = f s l s′ l′
+onPair f (Founds.Ciphertext s l) (Founds.Ciphertext s′ l′) = f s l s′ l′
 
 -- "7 levels differ. 8 scales differ in `add`."
 abbrev pub sum : Header → ℕ → ℕ → ℕ → ℕ → Step Found ℕ
 sum h s l s′ l′ =
-    cond (eqb l l′) (cond (eqb s s′) (bounded h ciphertext (pos s) (pos l)) (stops 8)) (stops 7)
+    cond (eqb l l′) (cond (eqb s s′) (bounded h Founds.Ciphertext (pos s) (pos l)) (stops 8)) (stops 7)
 
 abbrev pub product : Header → ℕ → ℕ → ℕ → ℕ → Step Found ℕ
-product h s l s′ l′ = cond (eqb l l′) (bounded h ciphertext (pos (s + s′)) (pos l)) (stops 7)
+product h s l s′ l′ = cond (eqb l l′) (bounded h Founds.Ciphertext (pos (s + s′)) (pos l)) (stops 7)
 
 -- "per line 7, 8, 10, 9"
 abbrev pub checkMachine : Header → Machine Found ℕ
 checkMachine h =
     record {
       absent = 4;
-      input = λ k. bounded h ciphertext (pos (h .waterline)) (pos (h .top));
-      constant = λ k. goes bare;
-      neg = λ x. onCiphertext (λ s l. bounded h ciphertext (pos s) (pos l)) x;
-      rot = λ x t. onCiphertext (λ s l. bounded h ciphertext (pos s) (pos l)) x;
+      input = λ k. bounded h Founds.Ciphertext (pos (h .waterline)) (pos (h .top));
+      constant = λ k. goes Founds.Bare;
+      neg = λ x. onCiphertext (λ s l. bounded h Founds.Ciphertext (pos s) (pos l)) x;
+      rot = λ x t. onCiphertext (λ s l. bounded h Founds.Ciphertext (pos s) (pos l)) x;
       add = λ x y. onPair (sum h) x y;
       mul = λ x y. onPair (product h) x y;
-      out = λ x. onCiphertext (λ s l. bounded h ciphertext (pos s) (pos l)) x;
-      enc = λ x s e. onBare (bounded h encoded (pos s) (pos e)) x;
-      rs = λ x c. onCiphertext (λ s l. bounded h ciphertext (pos s -ℤ pos (h .factor * c)) (pos l -ℤ pos c)) x;
-      ms = λ x c. onCiphertext (λ s l. bounded h ciphertext (pos s) (pos l -ℤ pos c)) x;
-      us = λ x b. onCiphertext (λ s l. bounded h ciphertext (pos (s + b)) (pos l)) x;
+      out = λ x. onCiphertext (λ s l. bounded h Founds.Ciphertext (pos s) (pos l)) x;
+      enc = λ x s e. onBare (bounded h Founds.Encoded (pos s) (pos e)) x;
+      rs = λ x c. onCiphertext (λ s l. bounded h Founds.Ciphertext (pos s -ℤ pos (h .factor * c)) (pos l -ℤ pos c)) x;
+      ms = λ x c. onCiphertext (λ s l. bounded h Founds.Ciphertext (pos s) (pos l -ℤ pos c)) x;
+      us = λ x b. onCiphertext (λ s l. bounded h Founds.Ciphertext (pos (s + b)) (pos l)) x;
     }
 
 -- The first line that breaks a rule, and which.

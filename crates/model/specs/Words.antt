@@ -2,6 +2,9 @@
 -- with the ranges of their numbers; a level's range is the file's. Which lines are a file's, which of their fields are operands, which numbers
 -- are in range, how many fields a word has and how a line is written are read off this table.
 use Prim.Native.Nat.{ℕ}
+use Prim.Native.Char.{code}
+use Prim.Native.String as Text
+use Prim.Native.String.{String}
 use mathlib.Core.Bool.{Bool, true, false, _&&_}
 use mathlib.Core.List.{List, [], _∷_}
 use lib.IntN.{ℤ, pos, negℤ}
@@ -12,6 +15,11 @@ use Rattle.model.specs.declared.Grammar.the-variants.{Circuit, Schedule}
 use Rattle.model.specs.declared.Word.{Word}
 use Rattle.model.specs.declared.Word.the-variants.{In, Const, Neg, Rot, Add, Mul, Out, Enc, Rs, Ms, Us, NoWord}
 use Rattle.model.specs.Scales.{within}
+
+-- the bytes of a text
+abbrev pub ascii : String → List ℕ
+ascii Text.[] = []
+ascii (Text._∷_ c rest) = code c ∷ ascii rest
 
 -- What a field after a word holds: a value number, which "has no range of its own"; a number from the first to the second; a level, in the
 -- range of the file; a rotation amount, from minus so much to so much.
@@ -31,17 +39,17 @@ pub record Entry : Type 0 where
 -- `mul A B`. `out A`." Schedule: "those above and `enc A S E` (constant A encoded at scale S, 1 to 3600, level E, 1 to L), `rs A C` (C rescales,
 -- 1 to 60), `ms A C` (C modswitches, 1 to 60), `us A B` (scale raised by B bits, 1 to 3600)."
 abbrev pub entry : Word → Entry
-entry In = record { bytes = 105 ∷ 110 ∷ []; circuit = true; schedule = true; fields = [] }
-entry Const = record { bytes = 99 ∷ 111 ∷ 110 ∷ 115 ∷ 116 ∷ []; circuit = true; schedule = true; fields = number 0 65535 ∷ [] }
-entry Neg = record { bytes = 110 ∷ 101 ∷ 103 ∷ []; circuit = true; schedule = true; fields = operand ∷ [] }
-entry Rot = record { bytes = 114 ∷ 111 ∷ 116 ∷ []; circuit = true; schedule = true; fields = operand ∷ amount 32767 ∷ [] }
-entry Add = record { bytes = 97 ∷ 100 ∷ 100 ∷ []; circuit = true; schedule = true; fields = operand ∷ operand ∷ [] }
-entry Mul = record { bytes = 109 ∷ 117 ∷ 108 ∷ []; circuit = true; schedule = true; fields = operand ∷ operand ∷ [] }
-entry Out = record { bytes = 111 ∷ 117 ∷ 116 ∷ []; circuit = true; schedule = true; fields = operand ∷ [] }
-entry Enc = record { bytes = 101 ∷ 110 ∷ 99 ∷ []; circuit = false; schedule = true; fields = operand ∷ number 1 3600 ∷ level ∷ [] }
-entry Rs = record { bytes = 114 ∷ 115 ∷ []; circuit = false; schedule = true; fields = operand ∷ number 1 60 ∷ [] }
-entry Ms = record { bytes = 109 ∷ 115 ∷ []; circuit = false; schedule = true; fields = operand ∷ number 1 60 ∷ [] }
-entry Us = record { bytes = 117 ∷ 115 ∷ []; circuit = false; schedule = true; fields = operand ∷ number 1 3600 ∷ [] }
+entry In = record { bytes = ascii "in"; circuit = true; schedule = true; fields = [] }
+entry Const = record { bytes = ascii "const"; circuit = true; schedule = true; fields = number 0 65535 ∷ [] }
+entry Neg = record { bytes = ascii "neg"; circuit = true; schedule = true; fields = operand ∷ [] }
+entry Rot = record { bytes = ascii "rot"; circuit = true; schedule = true; fields = operand ∷ amount 32767 ∷ [] }
+entry Add = record { bytes = ascii "add"; circuit = true; schedule = true; fields = operand ∷ operand ∷ [] }
+entry Mul = record { bytes = ascii "mul"; circuit = true; schedule = true; fields = operand ∷ operand ∷ [] }
+entry Out = record { bytes = ascii "out"; circuit = true; schedule = true; fields = operand ∷ [] }
+entry Enc = record { bytes = ascii "enc"; circuit = false; schedule = true; fields = operand ∷ number 1 3600 ∷ level ∷ [] }
+entry Rs = record { bytes = ascii "rs"; circuit = false; schedule = true; fields = operand ∷ number 1 60 ∷ [] }
+entry Ms = record { bytes = ascii "ms"; circuit = false; schedule = true; fields = operand ∷ number 1 60 ∷ [] }
+entry Us = record { bytes = ascii "us"; circuit = false; schedule = true; fields = operand ∷ number 1 3600 ∷ [] }
 entry NoWord = record { bytes = []; circuit = false; schedule = false; fields = [] }
 
 -- whether a file has the word

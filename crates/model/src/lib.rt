@@ -74,6 +74,24 @@ pub struct Placement {
     pub second: i32,
 }
 
+// What the plan knows of a circuit line: a bare constant, or a ciphertext and how it is done.
+pub enum Best {
+    Constant,
+    Ciphertext(Placement),
+}
+
+// One entry of an array of them.
+pub struct Known {
+    pub best: Best,
+}
+
+// What the check finds of a line: a bare constant, or a scale and a level.
+pub enum Found {
+    Bare,
+    Encoded(u32, u32),
+    Ciphertext(u32, u32),
+}
+
 // A service's answer on tables that were read: done, a least top level, or a refusal.
 pub enum Answer {
     Done,

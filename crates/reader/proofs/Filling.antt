@@ -1,17 +1,15 @@
 -- The loop that fills the table: what holds whenever its test is reached, and what each way on from there keeps. Assumes nothing.
-use Prim.Native.Nat.{ℕ, zero, suc, _+_, _≤_, _<_}
+use Prim.Native.Nat.{ℕ, suc, _+_, _≤_, _<_}
 use native.Mathlib.Numerals.{add-one}
 use native.Mathlib.Omega.{arith}
 use mathlib.Core.Path.{_≡_, refl, sym, ap, _∙_}
-use mathlib.Core.List.{List, [], _∷_, _++_, map, map-append}
+use mathlib.Core.List.{List, [], _∷_, _++_, map-append}
 use borrow.Author.Tests.{ne-eqb}
-use lib.Dec.{leb→le, le→leb}
-use lib.ListN.{length, getD, take, drop, set, replicate, length-drop, length-map, length-set, drop-of-length-le}
-use lib.Seq.{length-take-le, drop-drop, take-suc-set, getD-set-other}
+use lib.ListN.{length, take, drop, set, length-drop, length-map, length-set, drop-of-length-le}
+use lib.Seq.{length-take-le, drop-drop, take-suc-set}
 use Rattle.fields.specs.Pieces.{Bytes, lineFeed, before, split}
 use Rattle.model.specs.declared.Header.{Header}
 use Rattle.model.specs.declared.Line.{Line}
-use Rattle.model.specs.declared.Line.the-variants.{Free}
 use Rattle.model.specs.declared.Record.{Record}
 use Rattle.model.specs.declared.Table.{Table}
 use Rattle.model.specs.Files.{kindOf, tableLines}
@@ -20,18 +18,13 @@ use Rattle.text.specs.declared.FileRead.{FileRead}
 use Rattle.text.specs.declared.LineRead.{LineRead}
 use Rattle.text.specs.declared.LineRead.the-variants.{Good, Bad}
 use Rattle.text.specs.Files.{refused, keptCount, onward, readLines, readingOf, RestFree}
+use Rattle.tables.proofs.Records.{none-held, stored, stored-lines, stored-free}
 use Rattle.lines.specs.Kinds.{codeOf, codes}
 use Rattle.reader.specs.Reads.{nextLine, linesOf, keptWith}
 use Rattle.reader.proofs.Slices.{after, after-is}
 use Rattle.reader.proofs.Numbered.{line-number}
 use Rattle.text.proofs.FileLaws.{kept-most}
 use Rattle.reader.proofs.LineLaws.{kept-with, no-line, one-line, Taken, line-taken}
-
-abbrev lineOf : Record → Line
-lineOf r = r .line
-
-abbrev pub freeRecord : Record
-freeRecord = record { line = Free }
 
 -- The loop's invariant: with the lines of the table read and the text from `at` on left, reading comes to what the whole text comes to.
 pub record Filling (c : Context) (h : Header) (text : Bytes) (t : Table) (kinds : List ℕ) (kept at : ℕ) : Type 0 where
@@ -49,15 +42,6 @@ pub record Filling (c : Context) (h : Header) (text : Bytes) (t : Table) (kinds 
 -- what an answer with a number says
 pub refused-is : (r : FileRead) (n p : ℕ) → r .number ≡ n → r .place ≡ p → (n ≡ 0 → ⊥) → readingOf r ≡ refused n p
 refused-is r n p number place some = rw (number, place, ne-eqb n 0 some)
-
--- ---- an empty table
-pub all-free : (n i : ℕ) → getD (replicate n freeRecord) i freeRecord .line ≡ Free
-all-free zero i = refl
-all-free (suc n) zero = refl
-all-free (suc n) (suc i) = all-free n i
-
-none-held : (t : Table) → t .count ≡ 0 → tableLines t ≡ []
-none-held t e = rw e
 
 pub start :
     (c : Context) (h : Header) (text : Bytes) (t : Table) (kinds : List ℕ) → c .limit ≤ 1792 → t .header ≡ h → t .count ≡ 0 → RestFree t →
@@ -122,20 +106,8 @@ module _ {c : Context} {h : Header} {text : Bytes} {t : Table} {kinds : List ℕ
       kept-room = omega (arith, line-room, lines-held, f .counted, kept-most (tableLines t))
 
       module _ (code : ℕ) (coded : code ≡ codeOf (kindOf x)) (kept′ : ℕ) (counted : kept′ ≡ keptWith kept x) where
-        held-more : map (λ (r : Record). r .line) (take (t .count + 1) (set (t .lines) (t .count) (record { line = x }))) ≡ tableLines t ++ (x ∷ [])
-        held-more =
-            rw (add-one (t .count), take-suc-set (t .lines) (t .count) (record { line = x }) (omega (arith, line-room, f .free .room)))
-            (map-append (λ (r : Record). r .line) (take (t .count) (t .lines)) (record { line = x } ∷ []))
-
-        free-more : RestFree (record { header = t .header; lines = set (t .lines) (t .count) (record { line = x }); count = t .count + 1 })
-        free-more =
-            record {
-              room = length-set (t .lines) (t .count) (record { line = x }) ∙ f .free .room;
-              rest = λ i l.
-                  let far = leb→le (t .count + 1) i l in
-                  ap lineOf (getD-set-other (t .lines) (t .count) i (record { line = x }) freeRecord (λ same. omega arith))
-                  ∙ f .free .rest i (le→leb (t .count) i (omega arith));
-            }
+        held-more : tableLines (stored t x) ≡ tableLines t ++ (x ∷ [])
+        held-more = stored-lines t x (f .free) line-room
 
         coded-more : codes (tableLines t ++ (x ∷ [])) ≡ take (t .count + 1) (set kinds (t .count) code)
         coded-more =
@@ -144,14 +116,13 @@ module _ {c : Context} {h : Header} {text : Bytes} {t : Table} {kinds : List ℕ
 
         -- a line that is taken, stored
         pub line-stored :
-            Filling c h text (record { header = t .header; lines = set (t .lines) (t .count) (record { line = x }); count = t .count + 1 })
-            (set kinds (t .count) code) kept′ (at + end + 1)
+            Filling c h text (stored t x) (set kinds (t .count) code) kept′ (at + end + 1)
         line-stored =
             record {
               header = f .header;
               small = f .small;
               few = omega (arith, lines-held, taken .below);
-              free = free-more;
+              free = stored-free t x (f .free);
               wide = length-set kinds (t .count) code ∙ f .wide;
               coded = rw held-more coded-more;
               counted = rw (held-more, kept-with (tableLines t) x, ← f .counted) counted;

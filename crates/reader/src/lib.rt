@@ -18,19 +18,6 @@ ghost use Rattle.text.specs.Files.{keptCount, readText, readingOf, circuitConte
 ghost use Rattle.lines.specs.Kinds.{codes};
 ghost use Rattle.reader.specs.Reads.{pastLimits, nextLine, linesOf, keptWith};
 
-// A table with no line.
-fn empty(header: Header) -> Table
-    ensures { λ r. ⌜ r .header ≡ header ⌝ }
-    ensures { λ r. ⌜ r .count ≡ 0 ⌝ }
-    ensures { λ r. ⌜ RestFree r ⌝ }
-{
-    Table {
-        header: header,
-        lines: [Record { line: Line::Free }; 1792],
-        count: 0,
-    }
-}
-
 // Whether a line has a circuit's word.
 fn is_circuit_word(line: Line) -> bool
     ensures { λ r. ⌜ r ≡ isCircuitWord line ⌝ }
@@ -117,7 +104,7 @@ fn read_lines(context: Context, header: Header, text: &[u8]) -> FileRead
     ensures room { λ r. ⌜ RestFree (r .table) ⌝ }
     ensures few { λ r. ⌜ r .table .count ≤ context .limit ⌝ }
 {
-    let mut table = empty(header);
+    let mut table = tables::empty(header);
     let mut kinds = [0u8; 1792];
     let mut kept: usize = 0;
     let mut at: usize = 0;
@@ -156,7 +143,7 @@ fn refusal(number: u32, place: u32) -> FileRead
     ensures { λ r. ⌜ RestFree (r .table) ⌝ }
     ensures { λ r. ⌜ r .table .count ≡ 0 ⌝ }
 {
-    let table = empty(Header {
+    let table = tables::empty(Header {
         factor: 1,
         waterline: 1,
         top: 1,

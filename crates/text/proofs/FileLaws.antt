@@ -62,7 +62,7 @@ headed c p [] some = absurd (omega arith)
 headed c p (q ∷ ps) some = refl
 
 -- the line's text before its line feed has none
-line-without : (x : Line) → Without lineFeed (join tab (fieldsOf x))
+pub line-without : (x : Line) → Without lineFeed (join tab (fieldsOf x))
 line-without x = join-without (omega arith) (fields-without lineFeed (omega arith) x)
 
 -- ---- written, then read
@@ -118,7 +118,7 @@ file-written-read c f most t few =
 refused-read : {P : Type 0} (n place : ℕ) {f : File} → refused n place ≡ read f → P
 refused-read n place e = absurd (let z : _≡_ {A = ℕ} 0 1 = cc in omega arith)
 
-read-is : {f k : File} → read f ≡ read k → f ≡ k
+pub read-is : {f k : File} → read f ≡ read k → f ≡ k
 read-is e = cc
 
 module _ (c : Context) (h : Header) where

@@ -6,8 +6,10 @@ pub mod Shapes
 pub mod LineLaws
 pub mod HeaderLaws
 pub mod FileLaws
+pub mod Unique
 pub mod Tables
 pub mod Lengths
+pub mod Most
 pub mod Deciding
 pub mod Refusals
 pub mod Worked

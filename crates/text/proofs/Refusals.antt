@@ -90,7 +90,7 @@ unfolding readHeader
 header-answer g p = fields-answer g (split tab p)
 
 -- ---- no refusal has number 0, so that an answer's 0 can stand for a file
-not-zero : {n : ℕ} → IsNumber n → n ≡ 0 → ⊥
+pub not-zero : {n : ℕ} → IsNumber n → n ≡ 0 → ⊥
 not-zero form e = omega arith
 not-zero header e = omega arith
 not-zero lines e = omega arith

@@ -8,7 +8,7 @@ use Rattle.model.specs.declared.Grammar.{Grammar}
 use Rattle.model.specs.declared.Grammar.the-variants.{Circuit, Schedule}
 use Rattle.model.specs.declared.Word.{Word}
 use Rattle.model.specs.declared.Word.the-variants.{In, Const, Neg, Rot, Add, Mul, Out, Enc, Rs, Ms, Us, NoWord}
-use Rattle.model.specs.Words.{Holds, operand, number, level, amount, entry, hasWord}
+use Rattle.model.specs.Words.{Holds, operand, number, level, amount, ascii, entry, hasWord}
 
 -- the bytes of each word
 abbrev pub wordText : Word → Bytes
@@ -16,8 +16,8 @@ wordText w = entry w .bytes
 
 -- header words: "circuit F W L", "schedule F W L"
 abbrev pub headerWord : Grammar → Bytes
-headerWord Circuit = 99 ∷ 105 ∷ 114 ∷ 99 ∷ 117 ∷ 105 ∷ 116 ∷ []
-headerWord Schedule = 115 ∷ 99 ∷ 104 ∷ 101 ∷ 100 ∷ 117 ∷ 108 ∷ 101 ∷ []
+headerWord Circuit = ascii "circuit"
+headerWord Schedule = ascii "schedule"
 
 -- how many fields follow the word
 abbrev pub arity : Word → ℕ

@@ -102,10 +102,10 @@ counting-more records count first total i r c h line =
 
 pub counting-done :
     (g : Grammar) (t : Table) (first total i : ℕ) → Counting (t .lines) (t .count) first total i → t .count ≤ i →
-    Counted (headerOf g t) 72 first → total ≡ length (fileText g (fileOf t))
+    Counted (headerOf g t) 72 first → Counted (fileText g (fileOf t)) 129096 total
 counting-done g t first total i c h header =
     let all : i ≡ t .count = omega (arith, c .most) in
-    omega (arith, rw all at (c .sum), header .counted, whole-length g t)
+    record { counted = omega (arith, rw all at (c .sum), header .counted, whole-length g t); bounded = omega (arith, c .bounded, c .few, c .most) }
 
 pub ruleset countings = (counting-start, counting-more, counting-done, array-length)
 

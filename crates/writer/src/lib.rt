@@ -11,6 +11,7 @@ ghost use lib.ListN.{length};
 ghost use lib.IntN.{natAbs};
 ghost use Rattle.fields.specs.Pieces.{tab, join};
 ghost use Rattle.fields.specs.Numbers.{decimal, amountText};
+ghost use Rattle.model.specs.Words.{ascii};
 ghost use Rattle.text.specs.Files.{fileOf};
 ghost use Rattle.text.specs.Write.{fieldsOf, headerFieldsOf, fieldsText, lineText, fileText};
 ghost use Rattle.writer.specs.Put.{Put, Written, Counted, isNegative};
@@ -274,11 +275,20 @@ fn header_len(grammar: Grammar, header: Header) -> usize
     header_fields_len(grammar, header) + 1
 }
 
+// ---- the line of a refusal
+pub fn put_refused(out: &mut [u8], at: usize, number: u32, place: u32) -> usize
+    requires { ⌜ at + length (fieldsText (ascii "refused" ∷ decimal number ∷ decimal place ∷ [])) ≤ length (now out) ⌝ }
+    ensures { λ r. ⌜ Put (now (out .entry)) at (fieldsText (ascii "refused" ∷ decimal number ∷ decimal place ∷ [])) r (now (out .exit)) ⌝ }
+{
+    let next = put_two(out, at, b"refused", number, place);
+    put_byte(out, next, b'\n')
+}
+
 // ---- the file
-// How long the text is.
+// How long the text is: at most 72 bytes for each of 1,793 lines.
 pub fn file_len(grammar: Grammar, t: Table) -> usize
     requires { ⌜ t .count ≤ 1792 ⌝ }
-    ensures { λ r. ⌜ r ≡ length (fileText grammar (fileOf t)) ⌝ }
+    ensures { λ r. ⌜ Counted (fileText grammar (fileOf t)) 129096 r ⌝ }
 {
     let header = t.header;
     let count = t.count;

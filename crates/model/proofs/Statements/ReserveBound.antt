@@ -16,7 +16,9 @@ use Rattle.model.specs.Files.{wellFormed, kindOf, isCiphertext}
 use Rattle.model.specs.Machine.{finished, run}
 use Rattle.model.specs.Rules.{KeepsRules}
 use Rattle.model.specs.declared.Placement.{Placement}
-use Rattle.model.specs.Plan.{Best, bestMachine}
+use Rattle.model.specs.declared.Best.{Best}
+use Rattle.model.specs.declared.Best.the-variants as Bests
+use Rattle.model.specs.Plan.{bestMachine}
 use Rattle.model.specs.Services.{erase, origins}
 
 -- line i of the schedule, against its circuit line
@@ -24,7 +26,7 @@ pub record AtMostBest (h : Header) (schedule : List Line) (keeps : KeepsRules h 
   pub from : ℕ
   pub placement : Placement
   pub comes-from : getElem? (origins schedule) i ≡ some from
-  pub best-is : getElem? best from ≡ some (Best.ciphertext placement)
+  pub best-is : getElem? best from ≡ some (Bests.Ciphertext placement)
   pub at-most : reserve h (keeps .scale i) (keeps .level i) ≤ℤ placement .reserve
 
 pub record Bounded (h : Header) (circuit schedule : List Line) (keeps : KeepsRules h schedule) : Type 0 where

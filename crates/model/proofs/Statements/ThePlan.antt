@@ -15,7 +15,9 @@ use Rattle.model.specs.Files.{File, wellFormed, kindOf, isCiphertext, li
 use Rattle.model.specs.Machine.{finished, run}
 use Rattle.model.specs.Rules.{KeepsRules}
 use Rattle.model.specs.declared.Placement.{Placement}
-use Rattle.model.specs.Plan.{Best, bestMachine}
+use Rattle.model.specs.declared.Best.{Best}
+use Rattle.model.specs.declared.Best.the-variants as Bests
+use Rattle.model.specs.Plan.{bestMachine}
 use Rattle.model.specs.Services.{written, plan, keptLines}
 use Rattle.model.specs.Refused.{check}
 use Rattle.model.specs.Demands.{Passed}
@@ -25,7 +27,7 @@ pub record AttainsBest (schedule : File) (keeps : KeepsRules (schedule .header) 
   pub line : ℕ
   pub placement : Placement
   pub kept : getElem? (keptLines (schedule .lines)) j ≡ some line
-  pub best-is : getElem? best j ≡ some (Best.ciphertext placement)
+  pub best-is : getElem? best j ≡ some (Bests.Ciphertext placement)
   pub reserve-is : reserve (schedule .header) (keeps .scale line) (keeps .level line) ≡ placement .reserve
   pub level-is : keeps .level line ≡ placement .level
 

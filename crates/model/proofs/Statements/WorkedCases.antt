@@ -1,4 +1,4 @@
--- "Cases with * are proved, as rows of one checked table": each row's input is a file of its grammar and its outcome is the row's.
+-- The two machines on small files: each row's input is a file of its grammar and its outcome is the row's.
 use Prim.Native.Nat.{ℕ, _<_}
 use mathlib.Core.Path.{_≡_}
 use lib.Dec.{T}

@@ -1,0 +1,4 @@
+pub mod WorkLaws
+pub mod OperandLaws
+pub mod Reached
+pub mod Planning

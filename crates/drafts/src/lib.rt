@@ -1,0 +1,117 @@
+// Writes the plan of a circuit: for each of its lines the conversion lines of its operands, then the line itself.
+pub mod operands;
+pub mod works;
+
+use crate::operands::Operands;
+use model::Best;
+use model::Header;
+use model::Known;
+use model::Line;
+use model::Placement;
+use model::Record;
+use model::Table;
+ghost use mathlib.Core.Path.{_≡_};
+ghost use Prim.Native.Nat.{_≤_};
+ghost use Rattle.model.specs.declared.Grammar.the-variants.{Circuit};
+ghost use Rattle.model.specs.Files.{tableLines, TableFormed};
+ghost use Rattle.model.specs.Machine.{finished, run};
+ghost use Rattle.model.specs.Plan.{bestMachine, placementOf, planLines};
+ghost use Rattle.text.specs.Files.{RestFree};
+ghost use Rattle.drafts.specs.Bests.{bestsOf};
+ghost use Rattle.drafts.specs.Operands.{operandsFor, OperandsReach};
+
+// How a line is done, where it is a ciphertext.
+fn placement_of(best: Best) -> Placement
+    ensures { λ r. ⌜ r ≡ placementOf best ⌝ }
+{
+    match best {
+        Best::Constant => Placement {
+            level: 0,
+            reserve: 0,
+            first: 0,
+            second: 0,
+        },
+        Best::Ciphertext(placement) => placement,
+    }
+}
+
+// What is to be written for the operands of a line that is done as `own` says, where `left` and `right` are known of them and they have these
+// numbers in the schedule.
+fn operands_of(
+    header: Header,
+    line: Line,
+    own: Known,
+    left: Known,
+    first: u32,
+    right: Known,
+    second: u32,
+) -> Operands
+    requires { ⌜ OperandsReach header line (own .best) (left .best) (right .best) ⌝ }
+    ensures { λ r. ⌜ r ≡ operandsFor header line (own .best) (left .best) first (right .best) second ⌝ }
+{
+    let best = own.best;
+    let placement = placement_of(best);
+    let first_best = left.best;
+    let second_best = right.best;
+    let first_work = works::work_of(
+        header,
+        operands::brings_first(line),
+        first_best,
+        placement.first,
+        placement.level,
+        first,
+    );
+    let second_work = works::work_of(
+        header,
+        operands::brings_second(line),
+        second_best,
+        placement.second,
+        placement.level,
+        second,
+    );
+    Operands {
+        first: first_work,
+        second: second_work,
+    }
+}
+
+// The plan of a circuit whose lines are done as `known` says. The one loop that owns the schedule's table fills it in place; beside it stand
+// the numbers that the circuit's lines have in the schedule.
+pub fn plan_table(circuit: Table, known: [Known; 256]) -> Table
+    requires { ⌜ TableFormed Circuit circuit ⌝ }
+    requires { ⌜ run (bestMachine (circuit .header)) (tableLines circuit) ≡ finished (bestsOf known (circuit .count)) ⌝ }
+    ensures { λ r. ⌜ r .header ≡ circuit .header ⌝ }
+    ensures { λ r. ⌜ tableLines r ≡ planLines (circuit .header) (bestsOf known (circuit .count)) (tableLines circuit) ⌝ }
+    ensures room { λ r. ⌜ RestFree r ⌝ }
+    ensures few { λ r. ⌜ r .count ≤ 1792 ⌝ }
+{
+    let header = circuit.header;
+    let size = circuit.count;
+    let mut table = tables::empty(header);
+    let mut numbers = [0u32; 256];
+    let mut i: usize = 0;
+    while i < size {
+        let record = circuit.lines[i];
+        let line = record.line;
+        let a = tables::first_operand(line) as usize;
+        let b = tables::second_operand(line) as usize;
+        let own = known[i];
+        let left = known[a];
+        let right = known[b];
+        let mut operands = operands_of(header, line, own, left, numbers[a], right, numbers[b]);
+        while operands::is_left(operands) {
+            let number = table.count;
+            let conversion = operands::next_line(operands);
+            table.lines[number] = Record { line: conversion };
+            table.count = number + 1;
+            operands = operands::rest_of(operands, number as u32);
+        }
+        let number = table.count;
+        let renumbered = operands::line_of(line, operands);
+        table.lines[number] = Record { line: renumbered };
+        table.count = number + 1;
+        numbers[i] = number as u32;
+        i += 1;
+    }
+    table
+}

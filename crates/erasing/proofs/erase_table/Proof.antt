@@ -1,0 +1,44 @@
+-- `erasing::erase_table` meets its contract. The loop's invariant is `Filling`; the measure is what is left of the schedule. Assumes nothing.
+use Prim.Native.Nat.{_-_}
+use mathlib.Core.Logic.{⊎-elim}
+use borrow.Author.Needs.{needs}
+use Rattle.erasing.proofs.Filling.{Filling, after-kept, after-struck, filling-laws}
+use Rattle.erasing.proofs.erase_table.Statement.{statement}
+use Rattle.erasing.proofs.erase_table.Tie as tie
+
+abbrev Inv-loop : tie.InvT-loop
+Inv-loop schedule count table₀ origins₀ i₀ table origins i = Filling schedule table origins i
+
+abbrev μ-loop : tie.MeasureT-loop
+μ-loop schedule count table₀ origins₀ i₀ table origins i = count - i
+
+pub erase-table-spec : {M : Type 1} → statement M
+erase-table-spec =
+    tie.close
+    (tie.spec
+    Inv-loop
+    μ-loop
+    (λ c. search filling-laws)
+    (λ c. search needs)
+    (λ c. search needs)
+    (λ c. search needs)
+    (λ c κs. search needs)
+    (λ c. search needs)
+    (λ c. search needs)
+    (λ c. search filling-laws)
+    (λ c κs. search needs)
+    (λ c. search needs)
+    (λ c. search needs)
+    (λ c. search needs)
+    (λ c. search needs)
+    (λ c. search needs)
+    (λ c. search needs)
+    (λ c. search needs)
+    (λ c. search filling-laws)
+    (λ c κs. search needs)
+    (λ c. search needs)
+    (λ c. search needs)
+    (λ c. search needs)
+    (λ c. search needs)
+    (λ c. ⊎-elim (λ w. search after-kept) (λ w. search after-struck) (c .match .came))
+    (λ c. (search filling-laws, (search needs, search needs))))

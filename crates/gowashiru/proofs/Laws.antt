@@ -1,0 +1,8 @@
+-- What each service replies is what is promised of it. Assumes nothing.
+use borrow.Author.Needs.{needs}
+use Rattle.services.proofs.Planning.{plan-promise}
+use Rattle.services.proofs.Checking.{check-promise}
+use Rattle.services.proofs.Erasing.{erase-promise}
+use Rattle.services.proofs.Least.{least-promise}
+
+pub ruleset promises = (needs, plan-promise, check-promise, erase-promise, least-promise)

@@ -1,0 +1,35 @@
+// The services for a host in C, each with what the demands ask of it. include/gowashiru.h has the declarations.
+use services::Reply;
+ghost use Rattle.services.specs.Promises.{PlanPromise, CheckPromise, ErasePromise, LeastPromise};
+
+// Plans a circuit.
+#[no_mangle]
+pub extern "C" fn gowashiru_plan(circuit: &[u8], out: &mut [u8]) -> Reply
+    ensures { λ r. ⌜ PlanPromise (now (circuit .entry)) (now (out .entry)) r (now (out .exit)) ⌝ }
+{
+    planner::plan(circuit, out)
+}
+
+// Checks a schedule against a circuit.
+#[no_mangle]
+pub extern "C" fn gowashiru_check(circuit: &[u8], schedule: &[u8]) -> Reply
+    ensures { λ r. ⌜ CheckPromise (now (circuit .entry)) (now (schedule .entry)) r ⌝ }
+{
+    checker::check(circuit, schedule)
+}
+
+// Erases a schedule to its circuit.
+#[no_mangle]
+pub extern "C" fn gowashiru_erase(schedule: &[u8], out: &mut [u8]) -> Reply
+    ensures { λ r. ⌜ ErasePromise (now (schedule .entry)) (now (out .entry)) r (now (out .exit)) ⌝ }
+{
+    checker::erase(schedule, out)
+}
+
+// The least top level.
+#[no_mangle]
+pub extern "C" fn gowashiru_least_level(circuit: &[u8]) -> Reply
+    ensures { λ r. ⌜ LeastPromise (now (circuit .entry)) r ⌝ }
+{
+    planner::least_level(circuit)
+}

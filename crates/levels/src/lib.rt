@@ -1,0 +1,65 @@
+// The least top level at which a circuit fits.
+use model::Answer;
+use model::Best;
+use model::Header;
+use model::Known;
+use model::Table;
+use reserves::Placing;
+ghost use mathlib.Core.Path.{_≡_};
+ghost use Rattle.model.specs.declared.Grammar.the-variants.{Circuit};
+ghost use Rattle.model.specs.Scales.{withTop};
+ghost use Rattle.model.specs.Files.{TableFormed};
+ghost use Rattle.model.specs.Services.{leastLevel};
+ghost use Rattle.text.specs.Files.{fileOf};
+
+// The header with another top level.
+fn with_top(header: Header, level: u32) -> Header
+    ensures { λ r. ⌜ r ≡ withTop header level ⌝ }
+{
+    Header {
+        factor: header.factor,
+        waterline: header.waterline,
+        top: level,
+    }
+}
+
+// The first level from 1 to 60 at which every line has a best reserve, or the refusal at 60.
+pub fn least_level(circuit: Table) -> Answer
+    requires { ⌜ TableFormed Circuit circuit ⌝ }
+    ensures { λ r. ⌜ r ≡ leastLevel (fileOf circuit) ⌝ }
+{
+    let given = circuit.header;
+    let count = circuit.count;
+    let mut known = [Known {
+        best: Best::Constant,
+    }; 256];
+    let mut level: u32 = 1;
+    let least = 'levels: loop {
+        let header = with_top(given, level);
+        let mut i: usize = 0;
+        while i < count {
+            let record = circuit.lines[i];
+            let line = record.line;
+            let a = reserves::first_place(line, i);
+            let b = reserves::second_place(line, i);
+            match reserves::best_after(header, line, i, known[a], known[b]) {
+                Placing::Stops(number) => {
+                    if level == 60 {
+                        return Answer::Refused {
+                            number: number,
+                            place: (i as u32) + 2,
+                        };
+                    }
+                    level += 1;
+                    continue 'levels;
+                }
+                Placing::Goes(best) => {
+                    known[i] = Known { best: best };
+                    i += 1;
+                }
+            }
+        }
+        break 'levels level;
+    };
+    Answer::Level(least)
+}

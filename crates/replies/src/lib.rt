@@ -1,0 +1,72 @@
+// From what a service comes to, to its reply: a refusal, an answer on tables that were read, or a table's text in the buffer that is lent.
+use model::Answer;
+use model::Grammar;
+use model::Table;
+use services::Reply;
+ghost use mathlib.Core.Path.{_≡_};
+ghost use Prim.Native.Nat.{_≤_};
+ghost use lib.ListN.{length};
+ghost use Rattle.model.specs.Refused.{answerFile};
+ghost use Rattle.model.specs.declared.Answer.the-variants.{Refused};
+ghost use Rattle.text.specs.Files.{fileOf};
+ghost use Rattle.text.specs.Write.{fileText};
+ghost use Rattle.services.specs.Outcomes.{writes, refuses, answered, replyOf, Replied};
+
+pub fn refusal(number: u32, file: u32, place: u32) -> Reply
+    ensures { λ r. ⌜ r ≡ replyOf (refuses number file place) ⌝ }
+{
+    Reply {
+        number: number,
+        file: file,
+        place: place,
+        length: 0,
+    }
+}
+
+// Which file is at fault: none with place 0, and with 12 the circuit.
+fn file_at_fault(file: u32, number: u32, place: u32) -> u32
+    ensures { λ r. ⌜ r ≡ answerFile file (Refused number place) ⌝ }
+{
+    if place == 0 {
+        return 0;
+    }
+    if number == 12 {
+        return 1;
+    }
+    file
+}
+
+pub fn answered(file: u32, answer: Answer) -> Reply
+    ensures { λ r. ⌜ r ≡ replyOf (answered file answer) ⌝ }
+{
+    match answer {
+        Answer::Done => refusal(0, 0, 0),
+        Answer::Level(level) => Reply {
+            number: 0,
+            file: 0,
+            place: 0,
+            length: level,
+        },
+        Answer::Refused { number, place } => {
+            refusal(number, file_at_fault(file, number, place), place)
+        }
+    }
+}
+
+// The text is written only when it is known to fit.
+pub fn lend(out: &mut [u8], grammar: Grammar, table: Table) -> Reply
+    requires { ⌜ table .count ≤ 1792 ⌝ }
+    ensures { λ r. ⌜ Replied (writes (fileText grammar (fileOf table))) (now (out .entry)) r (now (out .exit)) ⌝ }
+{
+    let needed = writer::file_len(grammar, table);
+    if out.len() < needed {
+        return refusal(13, 0, 0);
+    }
+    let written = writer::put_file(out, grammar, table);
+    Reply {
+        number: 0,
+        file: 0,
+        place: 0,
+        length: written as u32,
+    }
+}

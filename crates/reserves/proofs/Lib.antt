@@ -1,0 +1,8 @@
+-- The laws that the proofs of the functions cite.
+pub mod Readings
+pub mod PlacementLaws
+pub mod WordLaws
+pub mod Bounds
+pub mod LineLaws
+pub mod Walk
+pub mod Answers

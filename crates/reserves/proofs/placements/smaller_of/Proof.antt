@@ -1,0 +1,11 @@
+-- `reserves::placements::smaller_of` meets its contract: the machine's test is the definition's. Assumes nothing.
+use Rattle.reserves.proofs.PlacementLaws.{placements}
+use Rattle.reserves.proofs.placements.smaller_of.Statement.{statement}
+use Rattle.reserves.proofs.placements.smaller_of.Tie as tie
+
+pub smaller-of-spec : {M : Type 1} → statement M
+smaller-of-spec =
+    tie.close
+    (tie.spec
+    (λ c. search placements)
+    (λ c. search placements))

@@ -1,0 +1,7 @@
+pub mod SignedNumbers
+pub mod BoundLaws
+pub mod WordLaws
+pub mod LineLaws
+pub mod SmallLaws
+pub mod Operands
+pub mod Checking

@@ -1,0 +1,15 @@
+-- `rules::words::added` meets its contract: the sum of a pair. Assumes nothing.
+use Rattle.rules.proofs.WordLaws.{word-laws}
+use Rattle.rules.proofs.words.added.Statement.{statement}
+use Rattle.rules.proofs.words.added.Tie as tie
+
+pub added-spec : {M : Type 1} → statement M
+added-spec =
+    tie.close
+    (tie.spec
+    (λ c κs. search word-laws)
+    (λ c. search word-laws)
+    (λ c κs. search word-laws)
+    (λ c. search word-laws)
+    (λ c. search word-laws)
+    (λ c. search word-laws))

@@ -1,0 +1,106 @@
+-- What erasing replies is what is promised: the erasure's text, which reads as a circuit. Assumes nothing.
+use Prim.Native.Nat.{ℕ, suc, _≤_}
+use native.Mathlib.Omega.{arith}
+use mathlib.Core.Path.{_≡_, refl, sym, ap, _∙_, subst}
+use mathlib.Core.Bool.{Bool, true, false, cond}
+use mathlib.Core.List.{List, [], _∷_, _++_}
+use lib.Dec.{T, leb, leb→le}
+use lib.ListN.{length, getD, take}
+use Rattle.fields.specs.Pieces.{Bytes}
+use Rattle.model.specs.declared.Header.{Header}
+use Rattle.model.specs.declared.Line.{Line}
+use Rattle.model.specs.declared.Line.the-variants.{In, Const, Neg, Rot, Add, Mul, Out, Enc, Rs, Ms, Us, Free}
+use Rattle.model.specs.declared.Grammar.the-variants.{Circuit}
+use Rattle.model.specs.Files.{File, isCircuitWord, lineFormed, linesFormed}
+use Rattle.model.specs.Services.{fateOf, eraseFrom, erase, eraseFile}
+use Rattle.model.proofs.Tests.{and-first, and-second}
+use Rattle.model.proofs.Formed.{line-facts, well-lines}
+use Rattle.model.proofs.Theorems as Model
+use Rattle.text.specs.Files.{Reading, read, refused, keptCount, readText, eraseContext}
+use Rattle.text.specs.Write.{fileText}
+use Rattle.text.proofs.Refusals.{not-zero}
+use Rattle.text.proofs.FileLaws.{file-read-written}
+use Rattle.services.specs.declared.Reply.{Reply}
+use Rattle.services.specs.Outcomes.{Outcome, writes, refuses, onceRead, eraseOutcome, Replied}
+use Rattle.services.specs.Promises.{Fitting, Erases, ErasePromise}
+use Rattle.services.proofs.Lending.{Writing, text, refusal, lent-replies, fitting, written-text}
+use Rattle.services.proofs.Texts.{not-both, one-file, number-told, text-inverse, circuit-back}
+
+-- ---- an erasure has no more lines than are kept
+erase-kept : (xs : List Line) (origins : List ℕ) (count : ℕ) → keptCount (eraseFrom (λ i x. fateOf x) origins count xs) ≤ keptCount xs
+erase-kept [] origins count = omega arith
+erase-kept (x ∷ xs) origins count = by-word x (erase-kept xs (origins ++ (count ∷ [])) (suc count)) (λ a. erase-kept xs (origins ++ (getD origins a count ∷ [])) count)
+  where
+    by-word : (x : Line) → keptCount (eraseFrom (λ i x. fateOf x) (origins ++ (count ∷ [])) (suc count) xs) ≤ keptCount xs
+        → ((a : ℕ) → keptCount (eraseFrom (λ i x. fateOf x) (origins ++ (getD origins a count ∷ [])) count xs) ≤ keptCount xs)
+        → keptCount (eraseFrom (λ i x. fateOf x) origins count (x ∷ xs)) ≤ keptCount (x ∷ xs)
+    by-word In k s = omega arith
+    by-word (Const c) k s = omega arith
+    by-word (Neg a) k s = omega arith
+    by-word (Rot a t) k s = omega arith
+    by-word (Add a b) k s = omega arith
+    by-word (Mul a b) k s = omega arith
+    by-word (Out a) k s = omega arith
+    by-word (Enc a c e) k s = s a
+    by-word (Rs a c) k s = s a
+    by-word (Ms a c) k s = s a
+    by-word (Us a b) k s = s a
+    by-word Free k s = k
+
+-- a circuit's lines all are
+all-kept : (h : Header) (before xs : List Line) → T (linesFormed Circuit h before xs) → keptCount xs ≡ length xs
+all-kept h before [] t = refl
+all-kept h before (x ∷ xs) t =
+    let f = line-facts Circuit h before x (and-first (lineFormed Circuit h before x) (linesFormed Circuit h (before ++ (x ∷ [])) xs) t) in
+    go (isCircuitWord x) (f .word) (all-kept h (before ++ (x ∷ [])) xs (and-second (lineFormed Circuit h before x) (linesFormed Circuit h (before ++ (x ∷ [])) xs) t))
+  where
+    go : (b : Bool) → T b → keptCount xs ≡ length xs → cond b (suc (keptCount xs)) (keptCount xs) ≡ suc (length xs)
+    go true t ih = ap suc ih
+    go false t ih = absurd t
+
+-- ---- what erasing comes to
+data EraseCase (schedule : Bytes) : Outcome → Type 0 where
+  unread : (n p : ℕ) → readText eraseContext schedule ≡ refused n p → EraseCase schedule (refuses n 1 p)
+  erased : (f : File) → readText eraseContext schedule ≡ read f → EraseCase schedule (writes (fileText Circuit (eraseFile f)))
+
+case-writing : {schedule : Bytes} {o : Outcome} → EraseCase schedule o → Writing o
+case-writing (unread n p e) = refusal n 1 p
+case-writing (erased f e) = text (fileText Circuit (eraseFile f))
+
+module _ (schedule : Bytes) where
+  erase-case : EraseCase schedule (eraseOutcome schedule)
+  erase-case = go (readText eraseContext schedule) refl
+    where
+      go : (x : Reading) → readText eraseContext schedule ≡ x → EraseCase schedule (onceRead 1 x (λ f. writes (fileText Circuit (eraseFile f))))
+      go (refused n p) e = unread n p e
+      go (read f) e = erased f e
+
+  erases-text : {f : File} → readText eraseContext schedule ≡ read f → Erases schedule (fileText Circuit (eraseFile f))
+  erases-text {f} e =
+      let b = file-read-written eraseContext schedule e in
+      let formed = Model.erasing (f .header) (f .lines) (b .formed) .formed in
+      let kept = leb→le (keptCount (f .lines)) 256 (and-second (leb (length (f .lines)) 1792) (leb (keptCount (f .lines)) 256) (b .few)) in
+      let all = all-kept (f .header) [] (erase (f .lines)) (well-lines Circuit (f .header) (erase (f .lines)) formed) in
+      let most = erase-kept (f .lines) [] 0 in
+      record { file = f; reads = e; text-is = refl; circuit-reads = circuit-back (eraseFile f) formed (omega arith) }
+
+  module _ (out : Bytes) (r : Reply) (after : Bytes) where
+    erases : {o : Outcome} → EraseCase schedule o → Replied o out r after → r .number ≡ 0 → Erases schedule (take (r .length) after)
+    erases (unread n p e) a z = absurd (not-zero (number-told eraseContext schedule n p e) (sym (ap (λ (q : Reply). q .number) (a .reply)) ∙ z))
+    erases (erased f e) a z = subst (Erases schedule) (sym (written-text out r after (fileText Circuit (eraseFile f)) (a .reply) (a .bytes) z)) (erases-text e)
+
+    otherwise : {o : Outcome} → EraseCase schedule o → Replied o out r after → (f : File) → readText eraseContext schedule ≡ read f → Fitting (length (fileText Circuit (eraseFile f))) (length out) (r .number)
+    otherwise (unread n p e) a f i = not-both i e
+    otherwise (erased k e) a f i =
+        subst (λ (x : File). Fitting (length (fileText Circuit (eraseFile x))) (length out) (r .number)) (one-file e i)
+        (fitting out r after (fileText Circuit (eraseFile k)) a)
+
+pub erase-promise : (schedule out : Bytes) (r : Reply) (after : Bytes) → Replied (eraseOutcome schedule) out r after → ErasePromise schedule out r after
+erase-promise schedule out r after a =
+    let case = erase-case schedule in
+    record {
+      inverse = text-inverse eraseContext (omega arith) schedule;
+      replies = lent-replies out r after (case-writing case) a;
+      erases = erases schedule out r after case a;
+      otherwise = otherwise schedule out r after case a;
+    }

@@ -1,0 +1,9 @@
+pub mod Lending
+pub mod Steps
+pub mod Texts
+pub mod Planning
+pub mod Checking
+pub mod Erasing
+pub mod Least
+pub mod Program
+pub mod Worked

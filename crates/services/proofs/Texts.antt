@@ -1,0 +1,114 @@
+-- The demands' terms on bytes and on files are the same: a text and the file that it reads to pass together, and have a schedule together.
+-- Assumes nothing.
+use Prim.Native.Nat.{ℕ, _≤_}
+use native.Mathlib.Omega.{arith}
+use mathlib.Core.Path.{_≡_, sym, ap, _∙_}
+use mathlib.Core.List.{List}
+use lib.Dec.{T, leb, leb→le, le→leb}
+use lib.ListN.{length}
+use Rattle.fields.specs.Pieces.{Bytes}
+use Rattle.model.specs.declared.Line.{Line}
+use Rattle.model.specs.declared.Grammar.the-variants.{Circuit, Schedule}
+use Rattle.model.specs.Files.{File, wellFormed, limit}
+use Rattle.model.specs.Services.{erase, eraseFile}
+use Rattle.model.specs.Demands as Demands
+use Rattle.model.proofs.Tests.{and-first, and-both}
+use Rattle.model.proofs.Theorems as Model
+use Rattle.text.specs.declared.Context.{Context}
+use Rattle.text.specs.Files.{Reading, read, refused, keptCount, readText, fewEnough, circuitContext, scheduleContext}
+use Rattle.text.specs.Write.{fileText}
+use Rattle.text.proofs.Statements.Refusals as Numbers
+use Rattle.text.proofs.FileLaws.{FileBack, kept-most, file-written-read, file-read-written}
+use Rattle.text.proofs.Unique.{text-of-one}
+use Rattle.text.proofs.Theorems as Text
+use Rattle.services.specs.Promises.{IsInverse, Passed, IsExact, Schedulable}
+
+-- ---- readings
+-- a text is read or refused, and to one file
+pub not-both : {P : Type 0} {x : Reading} {f : File} {n p : ℕ} → x ≡ read f → x ≡ refused n p → P
+not-both e q = absurd (let z : _≡_ {A = ℕ} 0 1 = cc in omega arith)
+
+pub one-file : {x : Reading} {f k : File} → x ≡ read f → x ≡ read k → f ≡ k
+one-file e q = cc
+
+-- the numbers with which reading refuses are not 6
+pub not-too-few : {n : ℕ} → Numbers.IsNumber n → n ≡ 6 → ⊥
+not-too-few Numbers.form e = omega arith
+not-too-few Numbers.header e = omega arith
+not-too-few Numbers.lines e = omega arith
+not-too-few Numbers.operand e = omega arith
+not-too-few Numbers.kind e = omega arith
+not-too-few Numbers.range e = omega arith
+
+pub number-told : (c : Context) (text : Bytes) (n p : ℕ) → readText c text ≡ refused n p → Numbers.IsNumber n
+number-told c text n p e = Text.refusals .refusal c text n p e .number
+
+pub few-lines : (c : Context) {text : Bytes} {f : File} → FileBack c text f → length (f .lines) ≤ c .limit
+few-lines c {text} {f} b = leb→le (length (f .lines)) (c .limit) (and-first (leb (length (f .lines)) (c .limit)) (leb (keptCount (f .lines)) (c .kept)) (b .few))
+
+pub fits-context : (c : Context) (f : File) → length (f .lines) ≤ c .limit → c .limit ≤ c .kept → T (fewEnough c (f .lines))
+fits-context c f few low =
+    let kept = kept-most (f .lines) in
+    and-both (leb (length (f .lines)) (c .limit)) (leb (keptCount (f .lines)) (c .kept)) (le→leb (length (f .lines)) (c .limit) few)
+    (le→leb (keptCount (f .lines)) (c .kept) (omega arith))
+
+-- a circuit's text, and a schedule's, are read back
+pub circuit-back : (f : File) → T (wellFormed Circuit (f .header) (f .lines)) → length (f .lines) ≤ limit Circuit → readText circuitContext (fileText Circuit f) ≡ read f
+circuit-back f t few = file-written-read circuitContext f (omega arith) t (fits-context circuitContext f few (omega arith))
+
+pub schedule-back : (f : File) → T (wellFormed Schedule (f .header) (f .lines)) → length (f .lines) ≤ limit Schedule → readText scheduleContext (fileText Schedule f) ≡ read f
+schedule-back f t few = file-written-read scheduleContext f (omega arith) t (fits-context scheduleContext f few (omega arith))
+
+-- a text and the file that it reads to are inverse
+pub text-inverse : (c : Context) → c .limit ≤ 1792 → (text : Bytes) → IsInverse c text
+text-inverse c most text file = (
+  λ e. let b = file-read-written c text e in record { formed = b .formed; few = b .few; text-is = b .written },
+  λ w. ap (readText c) (sym (w .text-is)) ∙ file-written-read c file most (w .formed) (w .few),
+)
+
+-- ---- passing
+module _ (circuit schedule : Bytes) where
+  pub passed-files : (p : Passed circuit schedule) → Demands.Passed (p .circuit-file) (p .schedule-file)
+  passed-files p =
+      let c = file-read-written circuitContext circuit (p .circuit-reads) in
+      let s = file-read-written scheduleContext schedule (p .schedule-reads) in
+      let e = Model.erasing (p .schedule-file .header) (p .schedule-file .lines) (s .formed) in
+      record {
+        circuit-formed = c .formed;
+        schedule-formed = s .formed;
+        keeps = p .keeps;
+        erases = text-of-one circuitContext (omega arith) (omega arith) circuit (p .circuit-reads) (eraseFile (p .schedule-file)) (e .formed) (p .erases);
+      }
+
+  pub passed-texts : {c s : File} → readText circuitContext circuit ≡ read c → readText scheduleContext schedule ≡ read s → Demands.Passed c s → Passed circuit schedule
+  passed-texts {c} {s} reads reads′ p =
+      let b = file-read-written circuitContext circuit reads in
+      record {
+        circuit-file = c;
+        schedule-file = s;
+        circuit-reads = reads;
+        schedule-reads = reads′;
+        keeps = p .keeps;
+        erases = ap (fileText Circuit) (p .erases) ∙ b .written;
+      }
+
+  pub passed-exact : (p : Passed circuit schedule) → IsExact circuit schedule p
+  passed-exact p H = Model.exactness (p .circuit-file) (p .schedule-file) (passed-files p) H
+
+-- ---- having a schedule
+module _ (f : File) (formed : T (wellFormed Circuit (f .header) (f .lines))) (few : length (f .lines) ≤ limit Circuit) (circuit : Bytes) (written : fileText Circuit f ≡ circuit) where
+  pub schedulable-lines : Schedulable (f .header) circuit → Demands.Schedulable (f .header) (f .lines)
+  schedulable-lines S =
+      let e = Model.erasing (f .header) (S .schedule) (S .formed) in
+      let same = text-of-one circuitContext (omega arith) (omega arith) circuit (ap (readText circuitContext) (sym written) ∙ circuit-back f formed few)
+      (record { header = f .header; lines = erase (S .schedule) }) (e .formed) (S .erases) in
+      record { schedule = S .schedule; formed = S .formed; keeps = S .keeps; erases = ap (λ (k : File). k .lines) same }
+
+  pub schedulable-text : Demands.Schedulable (f .header) (f .lines) → Schedulable (f .header) circuit
+  schedulable-text S =
+      record {
+        schedule = S .schedule;
+        formed = S .formed;
+        keeps = S .keeps;
+        erases = ap (λ (xs : List Line). fileText Circuit (record { header = f .header; lines = xs })) (S .erases) ∙ written;
+      }

@@ -1,0 +1,200 @@
+-- Document 01, "Worked with F = 60, W = 20": its cases, those with * and the others, as rows of one table, on whole files, and then rows of our
+-- own. A row is a question, its input and the outcome. A question is a service, the program, or scale and level of a value under the rules.
+use Prim.Native.Nat.{ℕ}
+use Prim.Native.Char.{code}
+use Prim.Native.String as Text
+use Prim.Native.String.{String}
+use mathlib.Core.Bool.{Bool, true, cond, _&&_}
+use mathlib.Core.List.{List, [], _∷_}
+use mathlib.Core.Option.{Option, none, some}
+use lib.Dec.{eqb}
+use lib.ListN.{getElem?}
+use Rattle.fields.specs.Pieces.{Bytes}
+use Rattle.model.specs.declared.Found.{Found}
+use Rattle.model.specs.declared.Found.the-variants as Founds
+use Rattle.model.specs.Files.{placeOf}
+use Rattle.model.specs.Machine.{Run, finished, stopped, run}
+use Rattle.model.specs.Refused.{checkMachine, sameNumbers}
+use Rattle.text.specs.Files.{Reading, read, refused, readText, scheduleContext}
+use Rattle.services.specs.Outcomes.{Outcome, writes, passes, level, refuses, planOutcome, checkOutcome, eraseOutcome, leastOutcome, lent, programText}
+
+-- a text "shown here with spaces for tabs"
+abbrev pub shown : String → Bytes
+shown Text.[] = []
+shown (Text._∷_ c rest) = cond (eqb (code c) 32) 9 (code c) ∷ shown rest
+
+-- Plan this circuit, and with a buffer of so many bytes; give its least top level; check this schedule against a circuit; erase this
+-- schedule, and with a buffer of so many bytes; what the program prints of this circuit; scale and level of a value of this schedule under the rules.
+pub data Question : Type 0 where
+  plan : Question
+  planInto : ℕ → Question
+  least : Question
+  checkAgainst : String → Question
+  erase : Question
+  eraseInto : ℕ → Question
+  program : Question
+  scaleOf : ℕ → Question
+
+pub data Finding : Type 0 where
+  comesTo : Outcome → Finding
+  prints : Bytes → Finding
+  scaleAndLevel : ℕ → ℕ → Finding
+  unscaled : Finding
+
+pub record Row : Type 0 where
+  pub input : String
+  pub question : Question
+  pub finding : Finding
+
+abbrev pub foundAt : Option Found → Finding
+foundAt none = unscaled
+foundAt (some Founds.Bare) = unscaled
+foundAt (some (Founds.Encoded s l)) = scaleAndLevel s l
+foundAt (some (Founds.Ciphertext s l)) = scaleAndLevel s l
+
+-- what the check finds of value v; the schedule is the second file
+abbrev pub ruled : ℕ → Run Found ℕ → Finding
+ruled v (finished found) = foundAt (getElem? found v)
+ruled v (stopped i n) = comesTo (refuses n 2 (placeOf i))
+
+abbrev pub onSchedule : ℕ → Reading → Finding
+onSchedule v (read file) = ruled v (run (checkMachine (file .header)) (file .lines))
+onSchedule v (refused n p) = comesTo (refuses n 2 p)
+
+abbrev pub findingOf : Question → Bytes → Finding
+findingOf plan input = comesTo (planOutcome input)
+findingOf (planInto room) input = comesTo (lent room (planOutcome input))
+findingOf least input = comesTo (leastOutcome input)
+findingOf (checkAgainst circuit) input = comesTo (checkOutcome (shown circuit) input)
+findingOf erase input = comesTo (eraseOutcome input)
+findingOf (eraseInto room) input = comesTo (lent room (eraseOutcome input))
+findingOf program input = prints (programText input)
+findingOf (scaleOf v) input = onSchedule v (readText scheduleContext input)
+
+-- A finding as a list of numbers, so that two can be compared.
+abbrev pub findingCode : Finding → List ℕ
+findingCode (comesTo (writes text)) = 0 ∷ text
+findingCode (comesTo passes) = 1 ∷ []
+findingCode (comesTo (level l)) = 2 ∷ l ∷ []
+findingCode (comesTo (refuses n f p)) = 3 ∷ n ∷ f ∷ p ∷ []
+findingCode (prints text) = 4 ∷ text
+findingCode (scaleAndLevel s l) = 5 ∷ s ∷ l ∷ []
+findingCode unscaled = 6 ∷ []
+
+abbrev pub rowHolds : Row → Bool
+rowHolds r = sameNumbers (findingCode (findingOf (r .question) (shown (r .input)))) (findingCode (r .finding))
+
+abbrev pub allHold : List Row → Bool
+allHold [] = true
+allHold (r ∷ rs) = rowHolds r && allHold rs
+
+abbrev pub row : String → Question → Finding → Row
+row input q f = record { input = input; question = q; finding = f }
+
+abbrev pub written : String → Finding
+written text = comesTo (writes (shown text))
+
+abbrev pub refusedAt : ℕ → ℕ → ℕ → Finding
+refusedAt n f p = comesTo (refuses n f p)
+
+-- "circuit 60 20 2 / in / const 7 / mul 0 1 / mul 2 1 / mul 3 3 / out 4" and what the program writes for it
+abbrev pub listing : String
+listing = "circuit 60 20 2\nin\nconst 7\nmul 0 1\nmul 2 1\nmul 3 3\nout 4\n"
+
+abbrev pub listingPlan : String
+listingPlan = "schedule 60 20 2\nin\nconst 7\nenc 1 20 2\nmul 0 2\nenc 1 20 2\nmul 3 4\nus 5 20\nrs 6 1\nus 5 20\nrs 8 1\nmul 7 9\nout 10\n"
+
+-- the same circuit scheduled by hand, with the common conversions written once
+abbrev pub listingByHand : String
+listingByHand = "schedule 60 20 2\nin\nconst 7\nenc 1 20 2\nmul 0 2\nmul 3 2\nus 4 20\nrs 5 1\nmul 6 6\nout 7\n"
+
+-- x to the power 4, L = 1; x to the power 16, L = 2
+abbrev pub fourth : String
+fourth = "circuit 60 20 1\nin\nmul 0 0\nmul 1 1\n"
+
+abbrev pub sixteenth : String
+sixteenth = "circuit 60 20 2\nin\nmul 0 0\nmul 1 1\nmul 2 2\nmul 3 3\n"
+
+-- the row past the end of the table
+abbrev pub noRow : Row
+noRow = row "" plan (refusedAt 1 1 1)
+
+abbrev pub table : List Row
+table =
+    -- "Header only: header only back; least level 1."
+    row "circuit 60 20 1\n" plan (written "schedule 60 20 1\n")
+    ∷ row "circuit 60 20 1\n" least (comesTo (level 1))
+    -- "x² at L = 1: scale 40, level 1. x⁴ by two squarings, L = 1: 6 at place 4."
+    ∷ row "circuit 60 20 1\nin\nmul 0 0\n" plan (written "schedule 60 20 1\nin\nmul 0 0\n")
+    ∷ row "schedule 60 20 1\nin\nmul 0 0\n" (scaleOf 1) (scaleAndLevel 40 1)
+    ∷ row fourth plan (refusedAt 6 1 4)
+    -- "x⁸ at L = 2: last product scale 40, level 1. x¹⁶ at L = 2: 6 at place 6; least 3."
+    ∷ row "circuit 60 20 2\nin\nmul 0 0\nmul 1 1\nmul 2 2\n" plan
+    (written "schedule 60 20 2\nin\nmul 0 0\nmul 1 1\nrs 2 1\nrs 2 1\nmul 3 4\n")
+    ∷ row "schedule 60 20 2\nin\nmul 0 0\nmul 1 1\nrs 2 1\nrs 2 1\nmul 3 4\n" (scaleOf 5) (scaleAndLevel 40 1)
+    ∷ row sixteenth plan (refusedAt 6 1 6)
+    ∷ row sixteenth least (comesTo (level 3))
+    -- "`rs` by 1 at scale 80 gives 20; at 79 refused 10."
+    ∷ row "schedule 60 20 2\nin\nus 0 60\nrs 1 1\n" (scaleOf 1) (scaleAndLevel 80 2)
+    ∷ row "schedule 60 20 2\nin\nus 0 60\nrs 1 1\n" (scaleOf 2) (scaleAndLevel 20 1)
+    ∷ row "schedule 60 20 2\nin\nus 0 59\nrs 1 1\n" (checkAgainst "circuit 60 20 2\nin\n") (refusedAt 10 2 4)
+    -- "`mul` of scales 20 and 40 at level 1 passes; 20 and 41: 9."
+    ∷ row "schedule 60 20 1\nin\nus 0 20\nmul 0 1\n" (checkAgainst "circuit 60 20 1\nin\nmul 0 0\n") (comesTo passes)
+    ∷ row "schedule 60 20 1\nin\nus 0 21\nmul 0 1\n" (checkAgainst "circuit 60 20 1\nin\nmul 0 0\n") (refusedAt 9 2 4)
+    -- "One `in`, F = 59, W = 60: L = 1 gives 6 at place 2, L = 2 passes."
+    ∷ row "circuit 59 60 1\nin\n" plan (refusedAt 6 1 2)
+    ∷ row "circuit 59 60 2\nin\n" plan (written "schedule 59 60 2\nin\n")
+    ∷ row "schedule 59 60 2\nin\n" (checkAgainst "circuit 59 60 2\nin\n") (comesTo passes)
+    -- "`rot 0 -32768`: 11. `const 007`: 1. An empty file: 1 at place 1."
+    ∷ row "circuit 60 20 2\nin\nrot 0 -32768\n" plan (refusedAt 11 1 3)
+    ∷ row "circuit 60 20 2\nconst 007\n" plan (refusedAt 1 1 2)
+    ∷ row "" plan (refusedAt 1 1 1)
+    -- "Program input … Output, whole"
+    ∷ row listing program (prints (shown listingPlan))
+    -- our own: a circuit that the program refuses
+    ∷ row fourth program (prints (shown "refused 6 4\n"))
+    -- the plan passes, and so does a schedule that is not the plan
+    ∷ row listing plan (written listingPlan)
+    ∷ row listingPlan (checkAgainst listing) (comesTo passes)
+    ∷ row listingByHand (checkAgainst listing) (comesTo passes)
+    -- the plan's text has 111 bytes: a buffer of that length is enough, and none below it
+    ∷ row listing (planInto 111) (written listingPlan)
+    ∷ row listing (planInto 110) (refusedAt 13 0 0)
+    ∷ row "schedule 60 20 2\nin\nus 0 7\n" (eraseInto 19) (written "circuit 60 20 2\nin\n")
+    ∷ row "schedule 60 20 2\nin\nus 0 7\n" (eraseInto 18) (refusedAt 13 0 0)
+    -- 4, 5, and in a line with two faults the form before the range, the range before the operand, the operand before the kind
+    ∷ row "circuit 60 20 2\nneg 0\n" plan (refusedAt 4 1 2)
+    ∷ row "circuit 60 20 2\nconst 1\nneg 0\n" plan (refusedAt 5 1 3)
+    ∷ row "circuit 60 20 2\nrot x 99999\n" plan (refusedAt 1 1 2)
+    ∷ row "circuit 60 20 2\nrot 9 99999\n" plan (refusedAt 11 1 2)
+    ∷ row "circuit 60 20 2\nconst 1\nadd 0 9\n" plan (refusedAt 4 1 3)
+    -- the circuit is read first, then the schedule, which is the second file
+    ∷ row "schedule 60 20 61\n" (checkAgainst "circuit 60 20 0\n") (refusedAt 2 1 1)
+    ∷ row "schedule 60 20 61\n" (checkAgainst "circuit 60 20 2\n") (refusedAt 2 2 1)
+    -- 12: another line, a longer erasure, a shorter one, another header; and before the rules
+    ∷ row listingByHand (checkAgainst "circuit 60 20 2\nin\nmul 0 0\n") (refusedAt 12 1 3)
+    ∷ row listingByHand (checkAgainst "circuit 60 20 2\nin\nconst 7\nmul 0 1\nmul 2 1\nmul 3 3\n") (refusedAt 12 1 7)
+    ∷ row "schedule 60 20 2\nin\n" (checkAgainst "circuit 60 20 2\nin\nout 0\n") (refusedAt 12 1 3)
+    ∷ row "schedule 60 20 2\nin\n" (checkAgainst "circuit 60 20 1\nin\n") (refusedAt 12 1 1)
+    ∷ row "schedule 60 20 1\nin\nus 0 41\n" (checkAgainst "circuit 60 20 1\nin\nin\n") (refusedAt 12 1 3)
+    -- 7, 8, 7 before 8, 10 before 9, a negative scale, a negative level, the first of two broken lines
+    ∷ row "schedule 60 20 2\nin\nms 0 1\nmul 0 1\n" (checkAgainst "circuit 60 20 2\nin\nmul 0 0\n") (refusedAt 7 2 4)
+    ∷ row "schedule 60 20 2\nin\nus 0 1\nadd 0 1\n" (checkAgainst "circuit 60 20 2\nin\nadd 0 0\n") (refusedAt 8 2 4)
+    ∷ row "schedule 60 20 2\nin\nms 0 1\nus 1 1\nadd 0 2\n" (checkAgainst "circuit 60 20 2\nin\nadd 0 0\n") (refusedAt 7 2 5)
+    ∷ row "schedule 1 60 60\nin\nconst 1\nenc 1 2 1\n" (checkAgainst "circuit 1 60 60\nin\nconst 1\n") (refusedAt 10 2 4)
+    ∷ row "schedule 60 20 2\nin\nrs 0 3\n" (checkAgainst "circuit 60 20 2\nin\n") (refusedAt 10 2 3)
+    ∷ row "schedule 60 20 2\nin\nms 0 3\n" (checkAgainst "circuit 60 20 2\nin\n") (refusedAt 9 2 3)
+    ∷ row "schedule 60 20 1\nin\nus 0 41\nus 0 42\n" (checkAgainst "circuit 60 20 1\nin\n") (refusedAt 9 2 3)
+    -- 6 at a line that is not the last, and a circuit that no level fits
+    ∷ row "circuit 60 20 1\nin\nmul 0 0\nmul 1 1\nin\n" plan (refusedAt 6 1 4)
+    ∷ row "circuit 1 60 1\nin\nmul 0 0\n" least (refusedAt 6 1 3)
+    -- plans: unequal m's in both orders, with all three conversions; a tie; constants in either place
+    ∷ row "circuit 19 26 12\nin\nmul 0 0\nmul 1 1\nmul 1 2\nmul 2 1\n" plan
+    (written "schedule 19 26 12\nin\nmul 0 0\nrs 1 1\nrs 1 1\nmul 2 3\nms 1 1\nus 5 12\nrs 6 2\nrs 4 2\nmul 7 8\nrs 4 2\nms 1 1\nus 11 12\nrs 12 2\nmul 10 13\n")
+    ∷ row "circuit 24 12 4\nin\nmul 0 0\nmul 1 1\n" plan (written "schedule 24 12 4\nin\nmul 0 0\nus 1 12\nrs 2 1\nus 1 12\nrs 4 1\nmul 3 5\n")
+    ∷ row "circuit 60 20 2\nin\nconst 5\nadd 0 1\nadd 1 2\nmul 1 3\nneg 4\nrot 5 -3\nout 6\n" plan
+    (written "schedule 60 20 2\nin\nconst 5\nenc 1 20 2\nadd 0 2\nenc 1 20 2\nadd 4 3\nenc 1 20 2\nmul 6 5\nneg 7\nrot 8 -3\nout 9\n")
+    -- erasing a schedule that breaks the rules
+    ∷ row "schedule 60 20 2\nin\nconst 3\nenc 1 5 1\nus 0 7\nadd 3 2\nrs 4 1\nneg 5\nout 6\n" erase
+    (written "circuit 60 20 2\nin\nconst 3\nadd 0 1\nneg 2\nout 3\n")
+    ∷ []

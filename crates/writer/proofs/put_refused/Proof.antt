@@ -1,0 +1,16 @@
+-- `writer::put_refused` meets its contract: the fields and a line feed. Assumes nothing.
+use borrow.Author.Needs.{needs}
+use Rattle.writer.proofs.Puts.{puts}
+use Rattle.writer.proofs.Fields.{line-texts}
+use Rattle.writer.proofs.put_refused.Statement.{statement}
+use Rattle.writer.proofs.put_refused.Tie as tie
+
+pub put-refused-spec : {M : Type 1} → statement M
+put-refused-spec =
+    tie.close
+    (tie.spec
+    (λ c. search needs)
+    (λ c κs. search (puts, line-texts))
+    (λ c κs. search (puts, line-texts))
+    (λ c. search needs)
+    (λ c. search (puts, line-texts)))

@@ -1,0 +1,47 @@
+/* Prints what a service replies on files: reply plan FILE, reply least FILE, reply erase FILE, reply check CIRCUIT SCHEDULE. */
+#include "../include/gowashiru.h"
+#include <stdio.h>
+#include <string.h>
+
+static uint8_t first[1 << 20], second[1 << 20], out[1 << 16];
+
+static size_t load(const char *name, uint8_t *bytes, size_t room) {
+    FILE *file = fopen(name, "rb");
+    if (!file) {
+        perror(name);
+        return 0;
+    }
+    size_t length = fread(bytes, 1, room, file);
+    fclose(file);
+    return length;
+}
+
+int main(int count, char **words) {
+    if (count < 3) {
+        fprintf(stderr, "usage: reply plan|least|erase FILE, reply check CIRCUIT SCHEDULE\n");
+        return 2;
+    }
+    size_t length = load(words[2], first, sizeof first);
+    struct gowashiru_reply reply;
+    if (!strcmp(words[1], "plan"))
+        reply = gowashiru_plan(first, length, out, sizeof out);
+    else if (!strcmp(words[1], "erase"))
+        reply = gowashiru_erase(first, length, out, sizeof out);
+    else if (!strcmp(words[1], "least"))
+        reply = gowashiru_least_level(first, length);
+    else if (!strcmp(words[1], "check") && count == 4)
+        reply = gowashiru_check(first, length, second, load(words[3], second, sizeof second));
+    else
+        return 2;
+    if (reply.number && !strcmp(words[1], "check"))
+        printf("refused\t%u\t%u\t%u\n", reply.number, reply.file, reply.place);
+    else if (reply.number)
+        printf("refused\t%u\t%u\n", reply.number, reply.place);
+    else if (!strcmp(words[1], "check"))
+        printf("passed\n");
+    else if (!strcmp(words[1], "least"))
+        printf("level\t%u\n", reply.length);
+    else
+        fwrite(out, 1, reply.length, stdout);
+    return 0;
+}
