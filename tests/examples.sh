@@ -1,8 +1,7 @@
 #!/usr/bin/env bash
-# Runs every example through the archive and the program and compares every byte of each reply with the one beside it.
+# Runs every example through the archive and the program and compares every byte of each reply with the one beside it. The archive is built before.
 set -euo pipefail
 cd "$(dirname "${BASH_SOURCE[0]}")/.."
-rt staticlib gowashiru </dev/null >/dev/null
 mkdir -p target/tests
 gcc -std=c11 -Wall -Wextra -Werror -O2 -o target/tests/reply tests/reply.c target/staticlib/libgowashiru.a
 gcc -std=c11 -Wall -Wextra -Werror -O2 -o target/tests/host examples/host.c target/staticlib/libgowashiru.a

@@ -19,28 +19,12 @@ use Rattle.model.specs.Machine.{Step, goes, stops, Machine, finished, st
 use Rattle.model.specs.Services.{erase}
 
 -- "A refusal is its number and place, and in a call with several files also which of them, counted from 1 in the order read, 0 with place
--- 0 (12: the circuit)". All three are 0 where nothing is refused.
-abbrev pub answerNumber : Answer → ℕ
-answerNumber Done = 0
-answerNumber (Level l) = 0
-answerNumber (Refused n p) = n
-
-abbrev pub answerPlace : Answer → ℕ
-answerPlace Done = 0
-answerPlace (Level l) = 0
-answerPlace (Refused n p) = p
-
+-- 0 (12: the circuit)". It is 0 where nothing is refused.
 -- file: the one whose line is at fault, 1 for the circuit in planning and least level, 2 for the schedule in a check
 abbrev pub answerFile : ℕ → Answer → ℕ
 answerFile file Done = 0
 answerFile file (Level l) = 0
 answerFile file (Refused n p) = cond (eqb p 0) 0 (cond (eqb n 12) 1 file)
-
--- the level, where one was asked for
-abbrev pub answerLevel : Answer → ℕ
-answerLevel Done = 0
-answerLevel (Level l) = l
-answerLevel (Refused n p) = 0
 
 -- "10 scale below W. 9 scale above F·level.", in this order. "A `rs` or `ms` past zero counts as a negative result."
 abbrev pub bounded : Header → (ℕ → ℕ → Found) → ℤ → ℤ → Step Found ℕ

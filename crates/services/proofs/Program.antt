@@ -42,7 +42,7 @@ pub record Refusing (input out : Bytes) (r : Reply) (after : Bytes) : Type 0 whe
   pub line-is : programText input ≡ refusedLine (r .number) (r .place)
 
 -- a plan's text is short
-plan-short : (input : Bytes) (f s : File) → readText circuitContext input ≡ read f → plan f ≡ Services.written s → length (fileText Schedule s) ≤ 131072
+pub plan-short : (input : Bytes) (f s : File) → readText circuitContext input ≡ read f → plan f ≡ Services.written s → length (fileText Schedule s) ≤ 131072
 plan-short input f s e q =
     let b = file-read-written circuitContext input e in
     let lines = Model.the-plan f (b .formed) s q .few (few-lines circuitContext b) in

@@ -1,0 +1,64 @@
+//! What is measured: the example circuits, full files, and files that are refused.
+
+use std::fs;
+use std::path::Path;
+
+/// A circuit and a schedule of it.
+pub struct Input {
+    pub name: String,
+    pub circuit: Vec<u8>,
+    pub schedule: Vec<u8>,
+}
+
+/// The examples that have a plan, by name.
+pub fn examples(folder: &Path) -> Vec<Input> {
+    let mut names: Vec<String> = fs::read_dir(folder)
+        .expect("the folder of the examples")
+        .filter_map(|entry| entry.ok()?.file_name().into_string().ok())
+        .filter_map(|name| name.strip_suffix(".circuit").map(str::to_string))
+        .collect();
+    names.sort();
+    let load = |name: &str| fs::read(folder.join(name)).expect("an example file");
+    names
+        .into_iter()
+        .map(|name| Input {
+            circuit: load(&format!("{name}.circuit")),
+            schedule: load(&format!("{name}.plan")),
+            name,
+        })
+        .filter(|input| input.schedule.starts_with(b"schedule"))
+        .collect()
+}
+
+/// A circuit of so many lines: rotations, sums and products with constants and with one another, shallow enough to fit.
+pub fn long_circuit(lines: usize) -> Vec<u8> {
+    let mut text = String::from("circuit\t60\t20\t60\nin\nconst\t7\n");
+    for i in 2..lines {
+        let before = if i == 2 { 0 } else { i - 1 };
+        let line = match i % 8 {
+            2 => format!("rot\t{before}\t-{i}\n"),
+            3 => format!("mul\t{before}\t1\n"),
+            4 => format!("add\t{before}\t0\n"),
+            5 => format!("neg\t{before}\n"),
+            6 => format!("add\t{before}\t1\n"),
+            7 => format!("mul\t{before}\t0\n"),
+            _ => format!("add\t0\t{before}\n"),
+        };
+        text.push_str(&line);
+    }
+    text.into_bytes()
+}
+
+/// A schedule of so many lines that keeps the rules: the first 256 lines are kept, the rest are upscales that nobody uses.
+pub fn long_schedule(lines: usize) -> (Vec<u8>, Vec<u8>) {
+    let kept = lines.min(256);
+    let mut lines_kept = String::from("in\n");
+    for i in 1..kept {
+        lines_kept.push_str(&format!("rot\t{}\t{i}\n", i - 1));
+    }
+    let mut schedule = format!("schedule\t60\t20\t2\n{lines_kept}");
+    for i in kept..lines {
+        schedule.push_str(&format!("us\t{}\t{}\n", i % kept, i % 80 + 1));
+    }
+    (format!("circuit\t60\t20\t2\n{lines_kept}").into_bytes(), schedule.into_bytes())
+}

@@ -1,0 +1,151 @@
+//! The services of the archive against the Rust version: the same inputs, the same run, both built for release.
+//!
+//! `bench` measures and prints a table; `bench --svg FILE` draws the growth with the number of lines too; `bench --smoke` only makes each
+//! call a few times and compares the replies. No time is asserted.
+
+mod inputs;
+mod plot;
+
+use inputs::Input;
+use reference::archive::{self, Lent, Service};
+use reference::services::{self, Reply};
+use std::hint::black_box;
+use std::path::Path;
+use std::time::Instant;
+
+const ROOM: usize = 131_072;
+
+/// One measured call: time in nanoseconds of the archive and of the Rust version.
+pub struct Row {
+    pub service: &'static str,
+    pub input: String,
+    pub lines: usize,
+    pub archive: f64,
+    pub rust: f64,
+}
+
+struct Call {
+    service: Service,
+    name: &'static str,
+    first: Vec<u8>,
+    second: Vec<u8>,
+}
+
+fn lines_of(text: &[u8]) -> usize {
+    text.iter().filter(|&&byte| byte == b'\n').count().saturating_sub(1)
+}
+
+fn by_rust(call: &Call, out: &mut [u8]) -> Reply {
+    match call.service {
+        Service::Plan => services::plan(&call.first, out),
+        Service::Check => services::check(&call.first, &call.second),
+        Service::Erase => services::erase(&call.first, out),
+        Service::LeastLevel => services::least_level(&call.first),
+    }
+}
+
+/// The shortest of several runs of so many calls each: other work on the machine only adds.
+fn shortest(runs: usize, calls: usize, mut call: impl FnMut() -> Reply) -> f64 {
+    let mut best = f64::MAX;
+    for _ in 0..runs {
+        let start = Instant::now();
+        for _ in 0..calls {
+            black_box(call());
+        }
+        best = best.min(start.elapsed().as_nanos() as f64 / calls as f64);
+    }
+    best
+}
+
+fn measure(call: &Call, input: &str, lines: usize, runs: usize, calls: usize) -> Row {
+    let mut first = Lent::new(&[], &call.first, &[], false);
+    let mut second = Lent::new(&[], &call.second, &[], false);
+    let mut lent = Lent::new(&[], &vec![0; ROOM], &[], false);
+    let mut out = vec![0; ROOM];
+    let replied = archive::call(call.service, &mut first, &mut second, &mut lent);
+    assert_eq!(replied, by_rust(call, &mut out), "{} of {input}", call.name);
+    assert!(lent.bytes() == &out[..], "the bytes of {} of {input}", call.name);
+    let archive = shortest(runs, calls, || archive::call(call.service, &mut first, &mut second, &mut lent));
+    let rust = shortest(runs, calls, || by_rust(call, &mut out));
+    Row { service: call.name, input: input.to_string(), lines, archive, rust }
+}
+
+fn calls_of(input: &Input) -> Vec<(Call, usize)> {
+    let call = |service, name, first: &[u8], second: &[u8]| Call { service, name, first: first.to_vec(), second: second.to_vec() };
+    let (circuit, schedule) = (&input.circuit[..], &input.schedule[..]);
+    let mut calls = vec![
+        (call(Service::Plan, "plan", circuit, &[]), lines_of(circuit)),
+        (call(Service::LeastLevel, "least level", circuit, &[]), lines_of(circuit)),
+    ];
+    if !schedule.is_empty() {
+        calls.push((call(Service::Check, "check", circuit, schedule), lines_of(schedule)));
+        calls.push((call(Service::Erase, "erase", schedule, &[]), lines_of(schedule)));
+    }
+    calls
+}
+
+fn full_files() -> Vec<Input> {
+    let mut full = Vec::new();
+    for lines in [16, 32, 64, 128, 256] {
+        let circuit = inputs::long_circuit(lines);
+        let mut out = vec![0; ROOM];
+        let reply = services::plan(&circuit, &mut out);
+        assert_eq!(reply.number, 0, "the long circuit has a plan");
+        out.truncate(reply.length as usize);
+        full.push(Input { name: format!("circuit of {lines} lines"), circuit, schedule: out });
+    }
+    for lines in [112, 224, 448, 896, 1792] {
+        let (circuit, schedule) = inputs::long_schedule(lines);
+        full.push(Input { name: format!("schedule of {lines} lines"), circuit, schedule });
+    }
+    full
+}
+
+/// A full circuit whose last line is damaged, one with too few levels at its last line, and nothing at all.
+fn refused_files() -> Vec<Input> {
+    let mut damaged = inputs::long_circuit(256);
+    let last = damaged.len() - 2;
+    damaged[last] = b'x';
+    let mut few = String::from("circuit\t60\t20\t1\nin\n");
+    for i in 1..254 {
+        few.push_str(&format!("rot\t{}\t{i}\n", i - 1));
+    }
+    few.push_str("mul\t0\t0\nmul\t254\t254\n");
+    let refused = |name: &str, circuit: Vec<u8>| Input { name: name.into(), circuit, schedule: Vec::new() };
+    vec![refused("a damaged last line", damaged), refused("too few levels", few.into_bytes()), refused("an empty file", Vec::new())]
+}
+
+fn rows(folder: &Path, runs: usize, calls: usize) -> Vec<Row> {
+    let mut rows = Vec::new();
+    for input in inputs::examples(folder).into_iter().chain(full_files()).chain(refused_files()) {
+        for (call, lines) in calls_of(&input) {
+            rows.push(measure(&call, &input.name, lines, runs, calls));
+        }
+    }
+    rows
+}
+
+fn print_table(rows: &[Row]) {
+    println!("| service | input | lines | archive, µs | Rust, µs | ratio | archive, ns a line |");
+    println!("|---|---|---|---|---|---|---|");
+    for row in rows {
+        let a_line = row.archive / row.lines.max(1) as f64;
+        let (archive, rust) = (row.archive / 1000.0, row.rust / 1000.0);
+        println!("| {} | {} | {} | {archive:.2} | {rust:.2} | {:.2} | {a_line:.0} |", row.service, row.input, row.lines, archive / rust);
+    }
+}
+
+fn main() {
+    let words: Vec<String> = std::env::args().skip(1).collect();
+    let folder = Path::new(env!("CARGO_MANIFEST_DIR")).join("../../examples");
+    if words.iter().any(|word| word == "--smoke") {
+        println!("bench: {} calls, all replies the same", rows(&folder, 1, 3).len());
+        return;
+    }
+    let rows = rows(&folder, 9, 400);
+    print_table(&rows);
+    if let [option, file] = &words[..] {
+        assert_eq!(option, "--svg", "bench [--smoke | --svg FILE]");
+        std::fs::write(file, plot::growth(&rows)).expect("the plot is written");
+    }
+}

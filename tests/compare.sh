@@ -1,0 +1,11 @@
+#!/usr/bin/env bash
+# Compares the archive with the Rust version that was written from document 01 alone, and makes each call of the benchmark a few times.
+set -euo pipefail
+cd "$(dirname "${BASH_SOURCE[0]}")/.."
+export GOWASHIRU_LIB="$PWD/target/staticlib"
+export CARGO_TARGET_DIR="$PWD/target/tests/cargo"
+cargo test --quiet --release --offline --manifest-path tests/reference/Cargo.toml
+cargo build --quiet --release --offline --manifest-path tests/reference/Cargo.toml
+cargo build --quiet --release --offline --manifest-path tests/bench/Cargo.toml
+target/tests/cargo/release/compare "$@"
+target/tests/cargo/release/bench --smoke

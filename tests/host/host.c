@@ -1,0 +1,781 @@
+/*
+ * A host of the library as a service is one. It loads the example circuits and schedules, notes in a first pass on
+ * one thread what every call replies and writes, and then repeats these calls from several threads at once, on stacks
+ * of the size that the header states. The first difference ends it with a message that names the input.
+ *
+ * Use: host [-n calls] [-t threads] [-r] [folder of the examples]
+ * With -r a growth of the memory is only reported (valgrind's own memory grows).
+ */
+#define _DEFAULT_SOURCE
+#include "gowashiru.h"
+
+#include <dirent.h>
+#include <errno.h>
+#include <fcntl.h>
+#include <inttypes.h>
+#include <pthread.h>
+#include <signal.h>
+#include <stdarg.h>
+#include <stdatomic.h>
+#include <stdbool.h>
+#include <stdio.h>
+#include <stdlib.h>
+#include <string.h>
+#include <sys/mman.h>
+#include <sys/wait.h>
+#include <time.h>
+#include <unistd.h>
+
+enum {
+    STACK = 320 * 1024,   /* what the header says to give a thread */
+    ENOUGH = 131072,      /* what the header says is always enough for a plan */
+    GUARD = 64,           /* bytes before and after each lent buffer */
+    MOST_GROWTH = 256,    /* KiB */
+    MOST_INPUTS = 2048,
+    MOST_JOBS = 4096,
+    MOST_THREADS = 64,
+    FAULT_STACK = 32768,
+    OVERLAP_SECONDS = 20
+};
+
+enum service { PLAN, CHECK, ERASE, LEAST };
+
+static const char *const service_names[] = {"plan", "check", "erase", "least level"};
+
+struct input {
+    char name[128];
+    const uint8_t *bytes;
+    size_t length;
+};
+
+/* One call, and what the first pass got from it. */
+struct job {
+    enum service service;
+    const struct input *file, *schedule; /* schedule: only of a check */
+    size_t room;                         /* length of the lent buffer */
+    bool lends_null;
+    struct gowashiru_reply reply;
+    uint8_t *result;
+};
+
+struct worker {
+    pthread_t thread;
+    uint32_t number;
+    unsigned long calls;
+    uint8_t *block;
+    uint8_t fault_stack[FAULT_STACK];
+};
+
+static struct input inputs[MOST_INPUTS];
+static size_t input_count;
+static struct job jobs[MOST_JOBS];
+static size_t job_count;
+static size_t whole_count; /* the first so many jobs are of files that are not damaged */
+static uint8_t first_block[ENOUGH + 2 * GUARD];
+static uint32_t thread_count = 4;
+static pthread_barrier_t gate;
+static atomic_flag failing = ATOMIC_FLAG_INIT;
+static _Thread_local const struct job *volatile running; /* for the fault message */
+
+/* ---- Messages ---- */
+
+/* Only the first thread that fails speaks; the others stand still until the process ends. */
+static _Noreturn void end_with(const char *about, const char *format, va_list values)
+{
+    while (atomic_flag_test_and_set(&failing))
+        pause();
+    fflush(stdout);
+    fprintf(stderr, "host: FAILED: %s", about);
+    vfprintf(stderr, format, values);
+    fputc('\n', stderr);
+    _Exit(1);
+}
+
+static _Noreturn void die(const char *format, ...)
+{
+    va_list values;
+    va_start(values, format);
+    end_with("", format, values);
+}
+
+static _Noreturn void fail(const struct job *job, const char *format, ...)
+{
+    char about[400];
+    const char *service = service_names[job->service], *file = job->file->name;
+    if (job->service == CHECK)
+        snprintf(about, sizeof about, "%s of %s with %s: ", service, file, job->schedule->name);
+    else if (job->service == LEAST)
+        snprintf(about, sizeof about, "%s of %s: ", service, file);
+    else
+        snprintf(about, sizeof about, "%s of %s, buffer %s%zu: ", service, file, job->lends_null ? "NULL, " : "",
+                 job->room);
+    va_list values;
+    va_start(values, format);
+    end_with(about, format, values);
+}
+
+/* The four numbers of a reply in the order of the struct. */
+static void show(struct gowashiru_reply reply, char text[48])
+{
+    snprintf(text, 48, "%" PRIu32 " %" PRIu32 " %" PRIu32 " %" PRIu32, reply.number, reply.file, reply.place,
+             reply.length);
+}
+
+static _Noreturn void fail_reply(const struct job *job, struct gowashiru_reply got, struct gowashiru_reply due)
+{
+    char got_text[48], due_text[48];
+    show(got, got_text);
+    show(due, due_text);
+    fail(job, "reply %s, due %s", got_text, due_text);
+}
+
+static void say(const char *text)
+{
+    ssize_t written = write(STDERR_FILENO, text, strlen(text));
+    (void)written;
+}
+
+/* A fault must name its input too: a stack that is too small shows as one, and so does a read past an input's end. */
+static void on_fault(int signal_number)
+{
+    (void)signal_number;
+    while (atomic_flag_test_and_set(&failing))
+        pause();
+    say("host: FAILED: fault");
+    if (running) {
+        say(" in ");
+        say(service_names[running->service]);
+        say(" of ");
+        say(running->file->name);
+        say(running->schedule ? " with " : "");
+        say(running->schedule ? running->schedule->name : "");
+    }
+    say("\n");
+    _exit(1);
+}
+
+static void watch_faults(uint8_t *stack)
+{
+    static const int signals[] = {SIGSEGV, SIGBUS, SIGILL, SIGFPE, SIGABRT};
+    stack_t other = {.ss_sp = stack, .ss_size = FAULT_STACK};
+    struct sigaction action = {.sa_handler = on_fault, .sa_flags = SA_ONSTACK};
+    if (sigaltstack(&other, NULL))
+        die("no stack for the fault message");
+    for (size_t i = 0; i < sizeof signals / sizeof signals[0]; i++)
+        if (sigaction(signals[i], &action, NULL))
+            die("no fault message");
+}
+
+/* ---- Inputs ---- */
+
+/* The last byte ends a page that cannot be written, and the next page is shut: a read past the end faults. */
+static const uint8_t *at_edge(const void *bytes, size_t length)
+{
+    size_t page = (size_t)sysconf(_SC_PAGESIZE);
+    size_t held = (length + page - 1) / page * page;
+    uint8_t *start = mmap(NULL, held + page, PROT_READ | PROT_WRITE, MAP_PRIVATE | MAP_ANONYMOUS, -1, 0);
+    if (start == MAP_FAILED)
+        die("no memory for an input");
+    if (length)
+        memcpy(start + held - length, bytes, length);
+    if ((held && mprotect(start, held, PROT_READ)) || mprotect(start + held, page, PROT_NONE))
+        die("an input cannot be closed to writing");
+    return start + held - length;
+}
+
+static const struct input *add_input(const char *name, const void *bytes, size_t length)
+{
+    if (input_count == MOST_INPUTS)
+        die("more than %d inputs", MOST_INPUTS);
+    struct input *input = &inputs[input_count++];
+    snprintf(input->name, sizeof input->name, "%s", name);
+    input->bytes = bytes ? at_edge(bytes, length) : NULL;
+    input->length = length;
+    return input;
+}
+
+static size_t read_file(const char *folder, const char *name, uint8_t *bytes, size_t room)
+{
+    char path[4096];
+    snprintf(path, sizeof path, "%s/%s", folder, name);
+    FILE *file = fopen(path, "rb");
+    if (!file)
+        die("%s: %s", path, strerror(errno));
+    size_t length = fread(bytes, 1, room, file);
+    if (ferror(file) || length == room)
+        die("%s cannot be read or is too long", path);
+    fclose(file);
+    return length;
+}
+
+static const struct input *load(const char *folder, const char *name)
+{
+    static uint8_t bytes[ENOUGH];
+    return add_input(name, bytes, read_file(folder, name, bytes, sizeof bytes));
+}
+
+/* ---- One call ---- */
+
+static bool writes(const struct job *job)
+{
+    return job->service == PLAN || job->service == ERASE;
+}
+
+static struct gowashiru_reply call(const struct job *job, uint8_t *out)
+{
+    const struct input *file = job->file;
+    switch (job->service) {
+    case PLAN:
+        return gowashiru_plan(file->bytes, file->length, out, job->room);
+    case CHECK:
+        return gowashiru_check(file->bytes, file->length, job->schedule->bytes, job->schedule->length);
+    case ERASE:
+        return gowashiru_erase(file->bytes, file->length, out, job->room);
+    default:
+        return gowashiru_least_level(file->bytes, file->length);
+    }
+}
+
+static bool all_are(const uint8_t *bytes, size_t count, uint8_t fill)
+{
+    return count == 0 || (bytes[0] == fill && memcmp(bytes, bytes + 1, count - 1) == 0);
+}
+
+/* Calls on a buffer full of one byte, and sees that the guards and all bytes past the result still hold that byte. */
+static struct gowashiru_reply run(const struct job *job, uint8_t *block, uint8_t fill)
+{
+    uint8_t *out = block + GUARD;
+    memset(block, fill, job->room + 2 * GUARD);
+    running = job;
+    struct gowashiru_reply reply = call(job, job->lends_null ? NULL : out);
+    running = NULL;
+    size_t written = writes(job) ? reply.length : 0;
+    if (written > job->room)
+        fail(job, "length %zu is past the buffer", written);
+    if (!all_are(block, GUARD, fill))
+        fail(job, "a byte before the buffer was written");
+    if (!all_are(out + job->room, GUARD, fill))
+        fail(job, "a byte after the buffer was written");
+    if (!all_are(out + written, job->room - written, fill))
+        fail(job, "a byte of the buffer was written that is not of the result");
+    return reply;
+}
+
+static bool same_reply(struct gowashiru_reply a, struct gowashiru_reply b)
+{
+    return a.number == b.number && a.file == b.file && a.place == b.place && a.length == b.length;
+}
+
+/* Runs a job again and compares with the first pass. */
+static void repeat(const struct job *job, uint8_t *block, uint8_t fill)
+{
+    struct gowashiru_reply reply = run(job, block, fill);
+    if (!same_reply(reply, job->reply))
+        fail_reply(job, reply, job->reply);
+    if (job->result && memcmp(block + GUARD, job->result, reply.length))
+        fail(job, "bytes differ from those of the first pass");
+}
+
+/* ---- First pass ---- */
+
+/* What the header says of every reply of a service. */
+static bool is_lawful(const struct job *job, struct gowashiru_reply reply)
+{
+    static const uint32_t refusals[] = {
+        [PLAN] = 0x287e, /* 1 to 6, 11, 13 */
+        [CHECK] = 0x1fbe, /* 1 to 5, 7 to 12 */
+        [ERASE] = 0x283e, /* 1 to 5, 11, 13 */
+        [LEAST] = 0x087e, /* 1 to 6, 11 */
+    };
+    if (reply.number == 0) {
+        bool length = job->service == LEAST ? reply.length >= 1 && reply.length <= 60
+                    : job->service == CHECK ? reply.length == 0
+                                            : reply.length >= 1;
+        return reply.file == 0 && reply.place == 0 && length;
+    }
+    if (reply.number > 13 || !(refusals[job->service] >> reply.number & 1) || reply.length)
+        return false;
+    if (reply.number == 13)
+        return reply.file == 0 && reply.place == 0;
+    return reply.place >= 1 && (reply.file == 1 || (reply.file == 2 && job->service == CHECK && reply.number != 12));
+}
+
+static struct job *add_job(struct job job)
+{
+    char text[48];
+    if (job_count == MOST_JOBS)
+        die("more than %d calls to repeat", MOST_JOBS);
+    job.reply = run(&job, first_block, 0xa5);
+    show(job.reply, text);
+    if (!is_lawful(&job, job.reply))
+        fail(&job, "reply %s is none that the header allows", text);
+    if (writes(&job) && job.reply.length) {
+        job.result = malloc(job.reply.length);
+        if (!job.result)
+            die("no memory for a result");
+        memcpy(job.result, first_block + GUARD, job.reply.length);
+    }
+    jobs[job_count] = job;
+    return &jobs[job_count++];
+}
+
+static void expect(const struct job *job, uint32_t number, uint32_t file, uint32_t place)
+{
+    struct gowashiru_reply due = {number, file, place, number ? 0 : job->reply.length};
+    if (!same_reply(job->reply, due))
+        fail_reply(job, job->reply, due);
+}
+
+static struct job *add_plan(const struct input *circuit, size_t room)
+{
+    return add_job((struct job){.service = PLAN, .file = circuit, .room = room});
+}
+
+static struct job *add_check(const struct input *circuit, const struct input *schedule)
+{
+    return add_job((struct job){.service = CHECK, .file = circuit, .schedule = schedule});
+}
+
+static struct job *add_erase(const struct input *schedule, size_t room)
+{
+    return add_job((struct job){.service = ERASE, .file = schedule, .room = room});
+}
+
+static struct job *add_least(const struct input *circuit)
+{
+    return add_job((struct job){.service = LEAST, .file = circuit});
+}
+
+/* The same call with other buffers: just enough, every shorter length, none. The soak repeats only the ends. */
+static void try_rooms(const struct job *done)
+{
+    struct job job = *done;
+    if (!writes(done) || done->reply.number)
+        return;
+    job.room = done->reply.length;
+    struct job *enough = add_job(job);
+    if (!same_reply(enough->reply, done->reply))
+        fail_reply(enough, enough->reply, done->reply);
+    if (memcmp(enough->result, done->result, done->reply.length))
+        fail(enough, "bytes differ from those in a longer buffer");
+    job.result = NULL;
+    job.reply = (struct gowashiru_reply){.number = 13};
+    for (job.room = 0; job.room < done->reply.length; job.room++)
+        repeat(&job, first_block, (uint8_t)job.room);
+    job.room = done->reply.length - 1;
+    expect(add_job(job), 13, 0, 0);
+    job.room = 0;
+    expect(add_job(job), 13, 0, 0);
+    job.lends_null = true;
+    expect(add_job(job), 13, 0, 0);
+}
+
+/* The reply as the examples write it. */
+static size_t as_text(const struct job *job, uint8_t *text, size_t room)
+{
+    struct gowashiru_reply reply = job->reply;
+    char *line = (char *)text;
+    int length;
+    if (reply.number && job->service == CHECK)
+        length = snprintf(line, room, "refused\t%" PRIu32 "\t%" PRIu32 "\t%" PRIu32 "\n", reply.number, reply.file,
+                          reply.place);
+    else if (reply.number)
+        length = snprintf(line, room, "refused\t%" PRIu32 "\t%" PRIu32 "\n", reply.number, reply.place);
+    else if (job->service == CHECK)
+        length = snprintf(line, room, "passed\n");
+    else if (job->service == LEAST)
+        length = snprintf(line, room, "level\t%" PRIu32 "\n", reply.length);
+    else {
+        memcpy(text, job->result, reply.length);
+        length = (int)reply.length;
+    }
+    return (size_t)length;
+}
+
+/* Compares with the expected reply that stands beside the example: its name with another ending. */
+static void compare(const struct job *job, const char *folder, const char *example, const char *ending)
+{
+    static uint8_t due[ENOUGH], got[ENOUGH];
+    char name[300];
+    int stem = (int)(strrchr(example, '.') - example);
+    snprintf(name, sizeof name, "%.*s%s", stem, example, ending);
+    size_t due_length = read_file(folder, name, due, sizeof due);
+    size_t got_length = as_text(job, got, sizeof got);
+    size_t at = 0;
+    while (at < due_length && at < got_length && due[at] == got[at])
+        at++;
+    if (at < due_length || at < got_length)
+        fail(job, "differs from %s at byte %zu", name, at);
+}
+
+/* A plan that was written must pass against its circuit and erase to it. */
+static void close_circle(const struct job *plan)
+{
+    char name[160];
+    if (plan->reply.number)
+        return;
+    snprintf(name, sizeof name, "plan of %s", plan->file->name);
+    const struct input *schedule = add_input(name, plan->result, plan->reply.length);
+    expect(add_check(plan->file, schedule), 0, 0, 0);
+    const struct job *erased = add_erase(schedule, ENOUGH);
+    expect(erased, 0, 0, 0);
+    if (erased->reply.length != plan->file->length || memcmp(erased->result, plan->file->bytes, plan->file->length))
+        fail(erased, "is not the circuit");
+}
+
+/* ---- Examples ---- */
+
+static bool ends_with(const char *name, const char *ending)
+{
+    size_t length = strlen(name), tail = strlen(ending);
+    return length > tail && strcmp(name + length - tail, ending) == 0;
+}
+
+static const struct input *find(const char *name)
+{
+    for (size_t i = 0; i < input_count; i++)
+        if (strcmp(inputs[i].name, name) == 0)
+            return &inputs[i];
+    die("no input %s", name);
+}
+
+static void try_circuit(const char *folder, const char *name)
+{
+    const struct input *circuit = load(folder, name);
+    const struct job *plan = add_plan(circuit, ENOUGH);
+    compare(plan, folder, name, ".plan");
+    compare(add_least(circuit), folder, name, ".least");
+    try_rooms(plan);
+    close_circle(plan);
+}
+
+static void try_schedule(const char *folder, const char *name)
+{
+    char circuit[300];
+    snprintf(circuit, sizeof circuit, "%.*s.circuit", (int)strcspn(name, "."), name);
+    const struct input *schedule = load(folder, name);
+    compare(add_check(find(circuit), schedule), folder, name, ".check");
+    const struct job *erased = add_erase(schedule, ENOUGH);
+    compare(erased, folder, name, ".erasure");
+    try_rooms(erased);
+}
+
+static int try_all(const char *folder, const char *ending, void (*try_one)(const char *, const char *))
+{
+    struct dirent **entries;
+    int tried = 0, count = scandir(folder, &entries, NULL, alphasort);
+    if (count < 0)
+        die("%s: %s", folder, strerror(errno));
+    for (int i = 0; i < count; i++) {
+        if (ends_with(entries[i]->d_name, ending)) {
+            try_one(folder, entries[i]->d_name);
+            tried++;
+        }
+        free(entries[i]);
+    }
+    free(entries);
+    if (!tried)
+        die("%s holds no %s", folder, ending);
+    return tried;
+}
+
+/* ---- Inputs made here ---- */
+
+static char draft[ENOUGH];
+static size_t drafted;
+
+static void put(const char *format, ...)
+{
+    va_list values;
+    va_start(values, format);
+    int length = vsnprintf(draft + drafted, sizeof draft - drafted, format, values);
+    va_end(values);
+    if (length < 0 || (size_t)length >= sizeof draft - drafted)
+        die("an input made here is too long");
+    drafted += (size_t)length;
+}
+
+static const struct input *take(const char *name)
+{
+    const struct input *input = add_input(name, draft, drafted);
+    drafted = 0;
+    return input;
+}
+
+/* Circuits of 256 lines, one that plans and one that has too few levels everywhere, and one of 257. */
+static void try_long_circuits(void)
+{
+    static const char *const lines[] = {"add\t%d\t0\n", "mul\t%d\t%d\n", "rot\t%d\t-32767\n", "neg\t%d\n"};
+    put("circuit\t60\t20\t60\nin\n");
+    for (int value = 1; value < 255; value++)
+        put(lines[value % 4], value - 1, value - 1);
+    put("out\t254\n");
+    const struct input *longest = take("256 lines.circuit");
+    const struct job *plan = add_plan(longest, ENOUGH);
+    expect(plan, 0, 0, 0);
+    expect(add_least(longest), 0, 0, 0);
+    try_rooms(plan);
+    close_circle(plan);
+
+    put("%.*sin\n", (int)longest->length, (const char *)longest->bytes);
+    const struct input *over = take("257 lines.circuit");
+    expect(add_plan(over, ENOUGH), 3, 1, 258);
+    expect(add_least(over), 3, 1, 258);
+
+    put("circuit\t60\t60\t60\nin\n");
+    for (int value = 1; value < 256; value++)
+        put("mul\t%d\t%d\n", value - 1, value - 1);
+    const struct input *deep = take("255 squarings.circuit");
+    if (add_plan(deep, ENOUGH)->reply.number != 6 || add_least(deep)->reply.number != 6)
+        die("plan or least level of %s: not refused with 6", deep->name);
+}
+
+/* Schedules of 1,792 lines and one more, and one that keeps 257 lines. */
+static void try_long_schedules(void)
+{
+    put("circuit\t60\t20\t60\nin\n");
+    for (int value = 1; value < 256; value++)
+        put("neg\t%d\n", value - 1);
+    const struct input *circuit = take("255 negs.circuit");
+
+    put("schedule\t60\t20\t60\nin\n");
+    for (int value = 1; value < 1792; value++)
+        put(value % 7 ? "us\t%d\t1\n" : "neg\t%d\n", value - 1);
+    const struct input *longest = take("1792 lines.schedule");
+    expect(add_check(circuit, longest), 0, 0, 0);
+    const struct job *erased = add_erase(longest, ENOUGH);
+    expect(erased, 0, 0, 0);
+    if (erased->reply.length != circuit->length || memcmp(erased->result, circuit->bytes, circuit->length))
+        fail(erased, "is not %s", circuit->name);
+    try_rooms(erased);
+
+    put("%.*sus\t0\t1\n", (int)longest->length, (const char *)longest->bytes);
+    const struct input *over = take("1793 lines.schedule");
+    expect(add_check(circuit, over), 3, 2, 1794);
+    expect(add_erase(over, ENOUGH), 3, 1, 1794);
+
+    put("schedule%.*sneg\t0\n", (int)circuit->length - 7, (const char *)circuit->bytes + 7);
+    const struct input *kept = take("257 kept lines.schedule");
+    expect(add_check(circuit, kept), 12, 1, 258);
+    expect(add_erase(kept, ENOUGH), 3, 1, 258);
+}
+
+/* An example cut after each byte, and with one bit of each byte turned: short calls, most of them refused. */
+static void try_damaged(const char *name, const struct input *circuit)
+{
+    uint8_t bytes[512];
+    char label[200];
+    const struct input *good = find(name);
+    if (good->length > sizeof bytes)
+        die("%s is too long to be damaged here", name);
+    for (size_t at = 0; at < 2 * good->length; at++) {
+        size_t place = at / 2;
+        memcpy(bytes, good->bytes, good->length);
+        bytes[place] ^= (uint8_t)(at % 2);
+        snprintf(label, sizeof label, "%s %s byte %zu", name, at % 2 ? "with a bit turned in" : "cut before", place);
+        const struct input *damaged = add_input(label, bytes, at % 2 ? good->length : place);
+        if (circuit) {
+            add_check(circuit, damaged);
+            add_erase(damaged, 1024);
+        } else {
+            add_plan(damaged, 1024);
+            add_least(damaged);
+        }
+    }
+}
+
+/* NULL with length 0 for each pointer; a missing file is an empty one, refused with 1 at its line 1. */
+static void try_null(void)
+{
+    const struct input *none = add_input("NULL", NULL, 0);
+    const struct input *circuit = find("listing.circuit"), *schedule = find("listing.by_hand.schedule");
+    struct job nothing = {.service = PLAN, .file = none, .lends_null = true};
+    expect(add_plan(none, ENOUGH), 1, 1, 1);
+    expect(add_plan(none, 0), 1, 1, 1);
+    expect(add_job(nothing), 1, 1, 1);
+    expect(add_check(none, schedule), 1, 1, 1);
+    expect(add_check(circuit, none), 1, 2, 1);
+    expect(add_check(none, none), 1, 1, 1);
+    nothing.service = ERASE;
+    expect(add_erase(none, ENOUGH), 1, 1, 1);
+    expect(add_erase(none, 0), 1, 1, 1);
+    expect(add_job(nothing), 1, 1, 1);
+    expect(add_least(none), 1, 1, 1);
+}
+
+/* ---- Input and output in the same buffer: outside the contract, so only looked at ---- */
+
+/* Runs in a child, which ends here; its exit code tells what was seen. */
+static _Noreturn void overlap_in_child(const struct job *job)
+{
+    static const int signals[] = {SIGSEGV, SIGBUS, SIGILL, SIGFPE, SIGABRT};
+    for (size_t i = 0; i < sizeof signals / sizeof signals[0]; i++)
+        signal(signals[i], SIG_DFL);
+    alarm(OVERLAP_SECONDS);
+    uint8_t *both = first_block + GUARD;
+    memcpy(both, job->file->bytes, job->file->length);
+    struct input moved = {.bytes = both, .length = job->file->length};
+    struct job copy = *job;
+    copy.file = &moved;
+    struct gowashiru_reply reply = call(&copy, both);
+    bool same = same_reply(reply, job->reply) && (reply.length == 0 || memcmp(both, job->result, reply.length) == 0);
+    _exit(same ? 0 : 1);
+}
+
+static int overlap(const struct job *job)
+{
+    int status;
+    fflush(stdout);
+    pid_t child = fork();
+    if (child < 0)
+        die("no child: %s", strerror(errno));
+    if (child == 0)
+        overlap_in_child(job);
+    if (waitpid(child, &status, 0) != child)
+        die("no word of the child: %s", strerror(errno));
+    if (WIFSIGNALED(status) && WTERMSIG(status) == SIGALRM)
+        fail(job, "had not ended after %d s with input and output in the same buffer", OVERLAP_SECONDS);
+    return WIFSIGNALED(status) ? 2 : WEXITSTATUS(status);
+}
+
+static void try_overlap(enum service service)
+{
+    unsigned seen[3] = {0, 0, 0};
+    for (size_t i = 0; i < job_count; i++)
+        if (jobs[i].service == service && jobs[i].room == ENOUGH && jobs[i].file->bytes)
+            seen[overlap(&jobs[i])]++;
+    printf("same buffer in and out (outside the contract), %s: %u as with two buffers, %u otherwise, %u faults\n",
+           service_names[service], seen[0], seen[1], seen[2]);
+}
+
+/* ---- Soak ---- */
+
+/* Without stdio, so that reading the figure takes no memory of its own. */
+static long resident_kib(void)
+{
+    static char status[8192];
+    int file = open("/proc/self/status", O_RDONLY);
+    ssize_t length = file < 0 ? -1 : read(file, status, sizeof status - 1);
+    if (length < 0)
+        die("/proc/self/status: %s", strerror(errno));
+    close(file);
+    status[length] = 0;
+    const char *line = strstr(status, "VmRSS:");
+    if (!line)
+        die("/proc/self/status has no VmRSS");
+    return strtol(line + 6, NULL, 10);
+}
+
+/* Warm-up: every job once. Soak: in a fixed disorder, so that other calls meet all the time; every other one is of a
+ * file that is not damaged, since the others are refused soon. */
+static void *work(void *argument)
+{
+    struct worker *me = argument;
+    uint32_t pick = me->number;
+    watch_faults(me->fault_stack);
+    for (size_t i = 0; i < job_count; i++)
+        repeat(&jobs[(i + me->number * job_count / thread_count) % job_count], me->block, (uint8_t)i);
+    pthread_barrier_wait(&gate);
+    pthread_barrier_wait(&gate);
+    for (unsigned long done = 0; done < me->calls; done++) {
+        pick = pick * 1664525u + 1013904223u;
+        repeat(&jobs[(pick >> 8) % (done % 2 ? job_count : whole_count)], me->block, (uint8_t)done);
+    }
+    pthread_barrier_wait(&gate);
+    pthread_barrier_wait(&gate);
+    return NULL;
+}
+
+static double seconds(void)
+{
+    struct timespec now;
+    clock_gettime(CLOCK_MONOTONIC, &now);
+    return (double)now.tv_sec + (double)now.tv_nsec / 1e9;
+}
+
+static void start(struct worker *workers, unsigned long calls)
+{
+    pthread_attr_t attributes;
+    if (pthread_attr_init(&attributes) || pthread_attr_setstacksize(&attributes, STACK))
+        die("no thread with a stack of %d bytes", STACK);
+    if (pthread_barrier_init(&gate, NULL, thread_count + 1))
+        die("no barrier");
+    for (uint32_t i = 0; i < thread_count; i++) {
+        workers[i].number = i;
+        workers[i].calls = calls / thread_count + (i < calls % thread_count);
+        workers[i].block = malloc(ENOUGH + 2 * GUARD);
+        if (!workers[i].block || pthread_create(&workers[i].thread, &attributes, work, &workers[i]))
+            die("no thread %" PRIu32, i);
+    }
+    pthread_attr_destroy(&attributes);
+}
+
+/* Memory is read while the threads stand at the gate, before and after the counted calls. */
+static void soak(unsigned long calls, bool only_report)
+{
+    static struct worker workers[MOST_THREADS];
+    resident_kib();
+    start(workers, calls);
+    pthread_barrier_wait(&gate);
+    long before = resident_kib();
+    double began = seconds();
+    pthread_barrier_wait(&gate);
+    pthread_barrier_wait(&gate);
+    double took = seconds() - began;
+    long after = resident_kib();
+    pthread_barrier_wait(&gate);
+    for (uint32_t i = 0; i < thread_count; i++) {
+        pthread_join(workers[i].thread, NULL);
+        free(workers[i].block);
+    }
+    printf("soak: %lu calls on %" PRIu32 " threads with stacks of %d KiB: %.1f s, %.0f calls a second\n", calls,
+           thread_count, STACK / 1024, took, (double)calls / took);
+    printf("memory: VmRSS %ld KiB after the warm-up, %ld KiB at the end\n", before, after);
+    if (after - before > MOST_GROWTH && !only_report)
+        die("memory grew by %ld KiB, more than %d", after - before, MOST_GROWTH);
+}
+
+static unsigned long number_from(const char *text, unsigned long most)
+{
+    char *end;
+    errno = 0;
+    unsigned long number = strtoul(text, &end, 10);
+    if (errno || *end || end == text || text[0] == '-' || number < 1 || number > most)
+        die("'%s' is not a number from 1 to %lu", text, most);
+    return number;
+}
+
+int main(int count, char **words)
+{
+    static uint8_t fault_stack[FAULT_STACK];
+    unsigned long calls = 1000000;
+    bool only_report = false;
+    for (int option; (option = getopt(count, words, "n:t:r")) != -1;) {
+        if (option == 'n')
+            calls = number_from(optarg, 4000000000u);
+        else if (option == 't')
+            thread_count = (uint32_t)number_from(optarg, MOST_THREADS);
+        else if (option == 'r')
+            only_report = true;
+        else
+            die("use: host [-n calls] [-t threads] [-r] [folder of the examples]");
+    }
+    const char *folder = optind < count ? words[optind] : "../../examples";
+    watch_faults(fault_stack);
+    int circuits = try_all(folder, ".circuit", try_circuit);
+    int schedules = try_all(folder, ".schedule", try_schedule);
+    try_long_circuits();
+    try_long_schedules();
+    try_null();
+    whole_count = job_count;
+    try_damaged("listing.circuit", NULL);
+    try_damaged("listing.by_hand.schedule", find("listing.circuit"));
+    printf("first pass: %d circuits, %d schedules, %zu inputs in all, %zu calls to repeat\n", circuits, schedules,
+           input_count, job_count);
+    try_overlap(PLAN);
+    try_overlap(ERASE);
+    fflush(stdout);
+    soak(calls, only_report);
+    puts("passed");
+    return 0;
+}

@@ -1,0 +1,218 @@
+//! The limits of document 01, each on both sides, as a fixed list of texts.
+
+use super::damage::FIELDS;
+use crate::text::{CIRCUIT_LINES, KEPT_LINES, SCHEDULE_LINES};
+
+/// A circuit and a schedule; all services take them.
+pub struct Pair {
+    pub circuit: Vec<u8>,
+    pub schedule: Vec<u8>,
+}
+
+/// The worked cases and settled points, with spaces for tabs and `/` for line ends.
+const WORKED: [&str; 34] = [
+    "",
+    "H 60 20 1/",
+    "H 60 20 1/in/mul 0 0/",
+    "H 60 20 1/in/mul 0 0/mul 1 1/",
+    "H 60 20 2/in/mul 0 0/mul 1 1/mul 2 2/",
+    "H 60 20 2/in/mul 0 0/mul 1 1/mul 2 2/mul 3 3/",
+    "H 59 60 1/in/",
+    "H 59 60 2/in/",
+    "H 60 20 2/in/us 0 60/rs 1 1/",
+    "H 60 20 2/in/us 0 59/rs 1 1/",
+    "H 60 20 1/in/us 0 20/mul 0 1/",
+    "H 60 20 1/in/us 0 21/mul 0 1/",
+    "H 60 20 2/in/const 7/mul 0 1/mul 2 1/mul 3 3/out 4/",
+    "H 60 20 2/in/const 7/enc 1 20 2/mul 0 2/enc 1 20 2/mul 3 4/us 5 20/rs 6 1/us 5 20/rs 8 1/mul 7 9/out 10/",
+    "H 60 20 2/in/ms 0 1/",
+    "H 60 20 2/in/ms 0 2/",
+    "H 60 20 2/in/ms 0 3/",
+    "H 60 20 2/in/ms 0 60/",
+    "H 60 20 2/in/us 0 100/rs 1 1/",
+    "H 60 20 2/in/us 0 100/rs 1 2/",
+    "H 60 20 2/in/us 0 101/",
+    "H 60 20 2/in/rs 0 60/",
+    "H 60 20 60/in/us 0 3580/rs 1 59/",
+    "H 60 60 60/in/us 0 3540/rs 1 59/",
+    "H 60 20 60/in/us 0 3581/",
+    "H 1 1 60/in/us 0 59/rs 1 59/ms 2 1/",
+    "H 60 20 2/in/ms 0 1/add 0 1/",
+    "H 60 20 2/in/us 0 1/add 0 1/",
+    "H 60 20 2/in/const 1/enc 1 19 1/",
+    "H 60 20 2/in/const 1/enc 1 61 1/",
+    "H 10 20 5/const 1/enc 0 15 1/",
+    "H 10 20 5/const 1/enc 0 20 2/",
+    "H 10 20 5/const 1/enc 0 20 1/",
+    "H 10 20 5/const 1/enc 0 19 2/",
+];
+
+const CIRCUIT_FORMS: [&str; 7] = ["in", "const 5", "neg 0", "rot 0 1", "add 0 2", "mul 0 2", "out 0"];
+const STRUCK_FORMS: [&str; 4] = ["enc 1 20 1", "rs 0 1", "ms 0 1", "us 0 1"];
+/// One value of each kind comes before the line that is tried.
+const BASE: &str = "in/const 5/neg 0/out 0/";
+/// Fields for the tries with two at once.
+const FEW: [&str; 14] = ["x", "", "-1", "-0", "01", "0", "1", "2", "3", "9", "61", "3601", "99999", "99999999999"];
+/// What may stand on a line past a limit.
+const LAST: [&str; 12] = ["in/", "in", "in x/", "in /", "inx/", "mul/", "mul x", "us 0 1/", "us", "x", "/", "out 0/"];
+
+fn bytes(shown: &str) -> Vec<u8> {
+    shown.replace('/', "\n").replace(' ', "\t").into_bytes()
+}
+
+/// A text as a circuit and as a schedule; `H` stands for the header word.
+fn as_both(shown: &str) -> Pair {
+    let with = |word: &str| bytes(&shown.replacen('H', word, 1));
+    Pair { circuit: with("circuit"), schedule: with("schedule") }
+}
+
+/// Every case of the list.
+pub fn all() -> Vec<Pair> {
+    let mut list: Vec<Pair> = WORKED.iter().map(|shown| as_both(shown)).collect();
+    headers(&mut list);
+    lines(&mut list);
+    encodings(&mut list);
+    line_counts(&mut list);
+    kept_counts(&mut list);
+    operands_at_the_end(&mut list);
+    long_texts(&mut list);
+    list
+}
+
+/// Every field of the header at every limit, and two at once.
+fn headers(list: &mut Vec<Pair>) {
+    for field in FIELDS {
+        for header in [format!("H {field} 20 2"), format!("H 60 {field} 2"), format!("H 60 20 {field}")] {
+            list.push(as_both(&format!("{header}/in/")));
+            list.push(as_both(&header));
+        }
+    }
+    for one in FEW {
+        for other in FEW {
+            list.push(as_both(&format!("H {one} {other} 2/in/")));
+            list.push(as_both(&format!("H 60 {one} {other}/x/")));
+        }
+    }
+    for header in
+        ["H", "H 60", "H 60 20", "H 60 20 2 2", "H 60 20 2 ", " H 60 20 2", "HH 60 20 2", "/H 60 20 2", "in", "circuits 1 1 1"]
+    {
+        list.push(as_both(&format!("{header}/in/")));
+    }
+    // Each file under the other's word.
+    list.push(Pair { circuit: bytes("schedule 60 20 2/in/"), schedule: bytes("circuit 60 20 2/in/") });
+}
+
+/// Every field of every line at every limit, two fields at once, and too few or too many fields.
+fn lines(list: &mut Vec<Pair>) {
+    for form in CIRCUIT_FORMS.into_iter().chain(STRUCK_FORMS) {
+        let fields: Vec<&str> = form.split(' ').collect();
+        for count in 0..=5 {
+            let longer: Vec<&str> = fields.iter().copied().chain(["0"; 5]).take(count).collect();
+            push_line(list, &longer);
+        }
+        for place in 0..fields.len() {
+            for field in FIELDS {
+                push_line(list, &with_field(&fields, place, field));
+            }
+        }
+        for place in 2..fields.len() {
+            for one in FEW {
+                for other in FEW {
+                    push_line(list, &with_field(&with_field(&fields, place - 1, one), place, other));
+                }
+            }
+        }
+    }
+}
+
+fn with_field<'a>(fields: &[&'a str], place: usize, field: &'a str) -> Vec<&'a str> {
+    let mut changed = fields.to_vec();
+    changed[place] = field;
+    changed
+}
+
+/// The line after one value of each kind, closed and not closed, and with more behind it.
+fn push_line(list: &mut Vec<Pair>, fields: &[&str]) {
+    let line = fields.join(" ");
+    list.push(as_both(&format!("H 60 20 2/{BASE}{line}/")));
+    list.push(as_both(&format!("H 60 20 2/{BASE}{line}")));
+    // In a schedule an encoded constant is value 4 here.
+    let schedule = bytes(&format!("schedule 60 20 2/{BASE}enc 1 20 2/{line}/x/"));
+    list.push(Pair { circuit: bytes(&format!("circuit 60 20 2/{BASE}in/{line}/x/")), schedule });
+}
+
+/// E of `enc` on both sides of L, S at both ends.
+fn encodings(list: &mut Vec<Pair>) {
+    for top in [1, 2, 59, 60] {
+        for level in [0, 1, top - 1, top, top + 1] {
+            for scale in [0, 1, 20, 60, 61, 3599, 3600, 3601] {
+                list.push(as_both(&format!("H 60 20 {top}/in/const 65535/enc 1 {scale} {level}/")));
+                list.push(as_both(&format!("H 60 20 {top}/const 0/enc 0 {scale} {level}/in/add 1 2/")));
+            }
+        }
+    }
+}
+
+/// 256 and 257 lines of a circuit, 1,792 and 1,793 of a schedule, and what may stand on the line too many.
+fn line_counts(list: &mut Vec<Pair>) {
+    for (limit, filling) in [(CIRCUIT_LINES, "in/"), (CIRCUIT_LINES, "const 1/"), (SCHEDULE_LINES - 1, "us 0 1/")] {
+        for count in limit - 2..=limit + 2 {
+            let full = format!("H 60 20 60/in/{}", filling.repeat(count - 1));
+            list.push(as_both(&full));
+            for last in LAST {
+                list.push(as_both(&format!("{full}{last}")));
+            }
+        }
+    }
+}
+
+/// 256 and 257 kept lines among struck ones: erase has a limit there, check answers 12.
+fn kept_counts(list: &mut Vec<Pair>) {
+    for (circuit, schedule) in (254..=256).flat_map(|circuit| (254..=258).map(move |schedule| (circuit, schedule))) {
+        let lines = |count| as_both(&format!("H 60 20 60/{}", "in/".repeat(count)));
+        list.push(Pair { circuit: lines(circuit).circuit, schedule: lines(schedule).schedule });
+    }
+    for count in KEPT_LINES - 2..=KEPT_LINES + 1 {
+        for filling in ["in/", "us 0 1/in/", "neg 0/ms 0 1/", "const 9/"] {
+            let full = format!("H 60 20 60/in/{}", filling.repeat(count - 1));
+            for last in LAST {
+                list.push(as_both(&format!("{full}{last}")));
+            }
+            let circuit = format!("H 60 20 60/in/{}", "in/".repeat(count - 1));
+            list.push(Pair { circuit: as_both(&circuit).circuit, schedule: as_both(&format!("{full}us 0 1/")).schedule });
+        }
+    }
+}
+
+/// Operands of the highest numbers: the last line's own, the one before, `out` lines and constants there.
+fn operands_at_the_end(list: &mut Vec<Pair>) {
+    for before in ["in/", "out 0/", "const 3/"] {
+        let circuit = format!("H 60 20 60/{}{before}", "in/".repeat(254));
+        let schedule = format!("H 60 20 60/in/{}{before}", "us 0 1/".repeat(1789));
+        for operand in [253, 254, 255, 256, 257, 1789, 1790, 1791, 1792] {
+            for line in
+                [format!("neg {operand}/"), format!("mul 0 {operand}/"), format!("add {operand} 0/"), format!("out {operand}/")]
+            {
+                let circuit = as_both(&format!("{circuit}{line}")).circuit;
+                let schedule = as_both(&format!("{schedule}{line}")).schedule;
+                list.push(Pair { circuit, schedule });
+            }
+        }
+    }
+}
+
+/// Fields, lines and files far longer than any of the form: work ends for these too.
+fn long_texts(list: &mut Vec<Pair>) {
+    for part in ["1", "0", "-", " ", "/", "in/", "x", "in ", "const 1/", "\r"] {
+        let long = part.repeat(100_000);
+        for text in [
+            long.clone(),
+            format!("H {long} 20 2/"),
+            format!("H 60 20 2{long}/"),
+            format!("H 60 20 2/in/neg {long}/"),
+            format!("H 60 20 2/in/rot 0 -{long}/in/"),
+        ] {
+            list.push(as_both(&text));
+        }
+    }
+}

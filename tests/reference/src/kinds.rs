@@ -1,0 +1,287 @@
+//! The kinds of cases, and what is compared in each.
+
+mod machines;
+mod search;
+
+use crate::both::{Both, Outcome, AMPLE};
+use crate::cases::limits::{self, Pair};
+use crate::cases::{damage, files, hand};
+use crate::erase::erasure_of;
+use crate::plan;
+use crate::random::Random;
+use crate::text::{bytes_of, file_of, File, Reading};
+use std::sync::OnceLock;
+
+#[derive(Clone, Copy, PartialEq, Eq, Debug)]
+pub enum Kind {
+    Circuit,
+    Schedule,
+    HandMade,
+    Spoiled,
+    Limit,
+    DamagedCircuit,
+    DamagedSchedule,
+    Buffer,
+    Machines,
+    Search,
+    Soup,
+}
+
+pub const KINDS: [Kind; 11] = [
+    Kind::Circuit,
+    Kind::Schedule,
+    Kind::HandMade,
+    Kind::Spoiled,
+    Kind::Limit,
+    Kind::DamagedCircuit,
+    Kind::DamagedSchedule,
+    Kind::Buffer,
+    Kind::Machines,
+    Kind::Search,
+    Kind::Soup,
+];
+
+/// The kinds follow each other in this order, over and over.
+const ROUND: [Kind; 20] = [
+    Kind::Circuit,
+    Kind::HandMade,
+    Kind::DamagedCircuit,
+    Kind::Limit,
+    Kind::Schedule,
+    Kind::Circuit,
+    Kind::Spoiled,
+    Kind::DamagedSchedule,
+    Kind::Machines,
+    Kind::Search,
+    Kind::Circuit,
+    Kind::HandMade,
+    Kind::DamagedCircuit,
+    Kind::Limit,
+    Kind::Schedule,
+    Kind::Soup,
+    Kind::Spoiled,
+    Kind::DamagedSchedule,
+    Kind::Machines,
+    Kind::Buffer,
+];
+
+impl Kind {
+    pub fn of_case(case: u64) -> Kind {
+        ROUND[(case % ROUND.len() as u64) as usize]
+    }
+
+    pub fn name(self) -> &'static str {
+        match self {
+            Kind::Circuit => "random circuits",
+            Kind::Schedule => "random schedules",
+            Kind::HandMade => "schedules made by hand",
+            Kind::Spoiled => "slightly illegal schedules",
+            Kind::Limit => "limits",
+            Kind::DamagedCircuit => "damaged circuits",
+            Kind::DamagedSchedule => "damaged schedules",
+            Kind::Buffer => "short buffers",
+            Kind::Machines => "both machines",
+            Kind::Search => "exhaustive search",
+            Kind::Soup => "soup",
+        }
+    }
+}
+
+/// Runs one case; a difference comes back as its description.
+pub fn run(case: u64, random: &mut Random, both: &mut Both) -> Result<(), String> {
+    match Kind::of_case(case) {
+        Kind::Circuit => circuit(random, both),
+        Kind::Schedule => schedule(random, both),
+        Kind::HandMade => hand_made(random, both),
+        Kind::Spoiled => spoiled(random, both),
+        Kind::Limit => limit(case, both),
+        Kind::DamagedCircuit => damaged_circuit(random, both),
+        Kind::DamagedSchedule => damaged_schedule(random, both),
+        Kind::Buffer => buffer(random, both),
+        Kind::Machines => machines::machines(random, both),
+        Kind::Search => search::tiny(random, both),
+        Kind::Soup => soup(random, both),
+    }
+}
+
+/// Both sides agree, yet what document 01 says of the reply may fail to hold.
+fn expect(holds: bool, otherwise: impl FnOnce() -> String) -> Result<(), String> {
+    if holds {
+        Ok(())
+    } else {
+        Err(otherwise())
+    }
+}
+
+fn with_files(what: &str, circuit: &[u8], schedule: &[u8]) -> String {
+    format!("{what}\n  circuit:  {}\n  schedule: {}", circuit.escape_ascii(), schedule.escape_ascii())
+}
+
+fn circuit(random: &mut Random, both: &mut Both) -> Result<(), String> {
+    let circuit = bytes_of(&files::circuit(random), Reading::Circuit);
+    services_of_circuit(&circuit, both)
+}
+
+/// Plan and least level of a circuit; where it has a plan, also the way through check and back by erase.
+fn services_of_circuit(circuit: &[u8], both: &mut Both) -> Result<(), String> {
+    let planned = both.plan(circuit, AMPLE)?;
+    both.least_level(circuit)?;
+    if planned.reply.number == 0 {
+        round_trip(circuit, &planned, both)?;
+    }
+    Ok(())
+}
+
+fn round_trip(circuit: &[u8], planned: &Outcome, both: &mut Both) -> Result<(), String> {
+    let otherwise = |what: &str| with_files(what, circuit, &planned.written);
+    let checked = both.check(circuit, &planned.written)?;
+    expect(checked.reply.number == 0, || otherwise("a plan does not pass the check"))?;
+    let erased = both.erase(&planned.written, AMPLE)?;
+    expect(erased.written == circuit, || otherwise("a plan does not erase to its circuit"))
+}
+
+fn schedule(random: &mut Random, both: &mut Both) -> Result<(), String> {
+    let schedule = files::schedule(random);
+    let text = bytes_of(&schedule, Reading::Schedule);
+    both.erase(&text, AMPLE)?;
+    check_against_erasure(random, &schedule, &text, both)
+}
+
+/// Checks against the schedule's own circuit, and against another one.
+fn check_against_erasure(random: &mut Random, schedule: &File, text: &[u8], both: &mut Both) -> Result<(), String> {
+    let erased = erasure_of(schedule);
+    both.check(&bytes_of(&erased, Reading::Circuit), text)?;
+    if random.percent(40) {
+        let other = hand::other_circuit(random, &erased);
+        both.check(&bytes_of(&other, Reading::Circuit), text)?;
+    }
+    Ok(())
+}
+
+/// A circuit that has a plan at its header, most of the time.
+fn likely_circuit(random: &mut Random, most_lines: usize) -> File {
+    let size = 1 + random.below(most_lines);
+    let mut circuit = files::circuit_of_size(random, size);
+    if let Ok(least) = plan::least_level(&circuit) {
+        circuit.header.top_level = (least as i32 + random.pick(&[0, 0, 1, 2, 5])).min(60);
+    }
+    circuit
+}
+
+fn schedule_by_hand(random: &mut Random) -> File {
+    let most_lines = random.pick(&[6, 12, 30, 256]);
+    let circuit = likely_circuit(random, most_lines);
+    hand::schedule(random, &circuit)
+}
+
+fn hand_made(random: &mut Random, both: &mut Both) -> Result<(), String> {
+    let schedule = schedule_by_hand(random);
+    let text = bytes_of(&schedule, Reading::Schedule);
+    both.erase(&text, AMPLE)?;
+    check_against_erasure(random, &schedule, &text, both)
+}
+
+fn spoiled(random: &mut Random, both: &mut Both) -> Result<(), String> {
+    let mut schedule = schedule_by_hand(random);
+    let erased = bytes_of(&erasure_of(&schedule), Reading::Circuit);
+    let changes = random.pick(&[1, 1, 1, 2, 5]);
+    for _ in 0..changes {
+        hand::spoil(random, &mut schedule);
+    }
+    let text = bytes_of(&schedule, Reading::Schedule);
+    both.check(&erased, &text)?;
+    both.erase(&text, AMPLE)?;
+    Ok(())
+}
+
+fn limit_pairs() -> &'static [Pair] {
+    static PAIRS: OnceLock<Vec<Pair>> = OnceLock::new();
+    PAIRS.get_or_init(limits::all)
+}
+
+fn limit(case: u64, both: &mut Both) -> Result<(), String> {
+    // The list is gone through in order, and again from the start.
+    let before = ROUND[..(case % ROUND.len() as u64) as usize].iter().filter(|&&kind| kind == Kind::Limit).count() as u64;
+    let in_round = ROUND.iter().filter(|&&kind| kind == Kind::Limit).count() as u64;
+    let index = (case / ROUND.len() as u64) * in_round + before;
+    let pairs = limit_pairs();
+    let pair = &pairs[(index % pairs.len() as u64) as usize];
+    services_of_circuit(&pair.circuit, both)?;
+    both.check(&pair.circuit, &pair.schedule)?;
+    let erased = both.erase(&pair.schedule, AMPLE)?;
+    if erased.reply.number == 0 {
+        both.check(&erased.written, &pair.schedule)?;
+    }
+    // A sound circuit before a schedule that may be damaged: file 2.
+    both.check(b"circuit\t60\t20\t2\nin\n", &pair.schedule)?;
+    Ok(())
+}
+
+fn damaged_circuit(random: &mut Random, both: &mut Both) -> Result<(), String> {
+    let circuit = files::circuit(random);
+    let sound = bytes_of(&circuit, Reading::Circuit);
+    let damaged = damage::damage(random, &sound);
+    services_of_circuit(&damaged, both)?;
+    let schedule = match plan::plan_of(&circuit) {
+        Ok(schedule) => bytes_of(&schedule, Reading::Schedule),
+        Err(_) => damage::soup(random, "schedule"),
+    };
+    both.check(&damaged, &schedule)?;
+    Ok(())
+}
+
+fn damaged_schedule(random: &mut Random, both: &mut Both) -> Result<(), String> {
+    let schedule = if random.percent(50) { files::schedule(random) } else { schedule_by_hand(random) };
+    let damaged = damage::damage(random, &bytes_of(&schedule, Reading::Schedule));
+    both.erase(&damaged, AMPLE)?;
+    both.check(&bytes_of(&erasure_of(&schedule), Reading::Circuit), &damaged)?;
+    // The damaged schedule may be sound still: then its own erasure is met too.
+    if let Ok(sound) = file_of(&damaged, Reading::Schedule) {
+        both.check(&bytes_of(&erasure_of(&sound), Reading::Circuit), &damaged)?;
+    }
+    Ok(())
+}
+
+/// Lengths around the needed one; for a small result now and then every length from 0.
+fn rooms(random: &mut Random, needed: usize) -> Vec<usize> {
+    if needed <= 120 && random.percent(20) {
+        return (0..=needed + 2).collect();
+    }
+    let mut rooms: Vec<usize> = (needed.saturating_sub(5)..=needed + 3).collect();
+    rooms.extend([0, 1, random.below(needed + 1), needed + random.below(200)]);
+    rooms
+}
+
+fn buffer(random: &mut Random, both: &mut Both) -> Result<(), String> {
+    let most_lines = random.pick(&[3, 10, 60]);
+    let circuit = bytes_of(&likely_circuit(random, most_lines), Reading::Circuit);
+    let planned = both.plan(&circuit, AMPLE)?;
+    // A refused circuit is refused alike with every buffer: 13 comes after all else.
+    let needed = if planned.reply.number == 0 { planned.written.len() } else { 8 };
+    for room in rooms(random, needed) {
+        both.plan(&circuit, room)?;
+    }
+    let schedule =
+        if planned.reply.number == 0 { planned.written } else { bytes_of(&files::schedule(random), Reading::Schedule) };
+    let erased = both.erase(&schedule, AMPLE)?;
+    for room in rooms(random, erased.written.len()) {
+        both.erase(&schedule, room)?;
+    }
+    Ok(())
+}
+
+fn soup(random: &mut Random, both: &mut Both) -> Result<(), String> {
+    let circuit = damage::soup(random, "circuit");
+    let schedule = damage::soup(random, "schedule");
+    services_of_circuit(&circuit, both)?;
+    both.erase(&schedule, AMPLE)?;
+    both.check(&circuit, &schedule)?;
+    both.check(b"circuit\t60\t20\t1\n", &schedule)?;
+    // The empty slice in each place.
+    both.check(&circuit, b"")?;
+    both.check(b"", &schedule)?;
+    both.plan(b"", 0)?;
+    both.erase(b"", 0)?;
+    both.least_level(b"")?;
+    Ok(())
+}

@@ -1,0 +1,151 @@
+//! The four services, from lent bytes to a reply, and the program's output.
+
+use crate::text::{read, write, File, Reading, Refusal, Text, TEXT_BYTES};
+use crate::{check, erase, plan};
+
+/// The reply of a call, laid out as in the C declarations. "number 0 is success, then file and place are 0."
+#[repr(C)]
+#[derive(Clone, Copy, PartialEq, Eq, Debug)]
+pub struct Reply {
+    pub number: u32,
+    pub file: u32,
+    pub place: u32,
+    pub length: u32,
+}
+
+impl Reply {
+    fn success(length: u32) -> Reply {
+        Reply { number: 0, file: 0, place: 0, length }
+    }
+
+    /// Refused at a line of a file, "counted from 1 in the order read".
+    fn refused(file: u32, refusal: Refusal) -> Reply {
+        Reply { number: refusal.number, file, place: refusal.place, length: 0 }
+    }
+
+    /// "13 buffer too short, place 0, after all else."
+    fn too_short() -> Reply {
+        Reply { number: 13, file: 0, place: 0, length: 0 }
+    }
+}
+
+/// Plan a circuit.
+pub fn plan(circuit: &[u8], out: &mut [u8]) -> Reply {
+    let mut table = File::free();
+    let mut schedule = File::free();
+    match read(circuit, Reading::Circuit, &mut table).and_then(|()| plan::plan(&table, &mut schedule)) {
+        Ok(()) => hand_back(&schedule, Reading::Schedule, out),
+        Err(refusal) => Reply::refused(1, refusal),
+    }
+}
+
+/// Check a schedule against a circuit: "circuit first". 12 names the circuit, the rules of a line name the schedule.
+pub fn check(circuit: &[u8], schedule: &[u8]) -> Reply {
+    let mut table = File::free();
+    if let Err(refusal) = read(circuit, Reading::Circuit, &mut table) {
+        return Reply::refused(1, refusal);
+    }
+    let mut lines = File::free();
+    match read(schedule, Reading::Schedule, &mut lines).and_then(|()| check::check(&table, &lines)) {
+        Ok(()) => Reply::success(0),
+        Err(refusal) => Reply::refused(if refusal.number == 12 { 1 } else { 2 }, refusal),
+    }
+}
+
+/// Erase a schedule to its circuit.
+pub fn erase(schedule: &[u8], out: &mut [u8]) -> Reply {
+    let mut lines = File::free();
+    if let Err(refusal) = read(schedule, Reading::ScheduleToErase, &mut lines) {
+        return Reply::refused(1, refusal);
+    }
+    let mut circuit = File::free();
+    erase::erase(&lines, &mut circuit);
+    hand_back(&circuit, Reading::Circuit, out)
+}
+
+/// Give the least top level.
+pub fn least_level(circuit: &[u8]) -> Reply {
+    let mut table = File::free();
+    match read(circuit, Reading::Circuit, &mut table).and_then(|()| plan::least_level(&table)) {
+        Ok(level) => Reply::success(level),
+        Err(refusal) => Reply::refused(1, refusal),
+    }
+}
+
+/// "On success the bytes past the result's length are as at entry too."
+fn hand_back(file: &File, reading: Reading, out: &mut [u8]) -> Reply {
+    let mut text = Text::free();
+    write(file, reading, &mut text);
+    match out.get_mut(..text.bytes().len()) {
+        Some(result) => {
+            result.copy_from_slice(text.bytes());
+            Reply::success(result.len() as u32)
+        }
+        None => Reply::too_short(),
+    }
+}
+
+/// "A program reads a circuit on standard input and prints the schedule, or one line of `refused`, number and place, tab-parted
+/// and closed by a line feed."
+pub fn program(input: &[u8]) -> Vec<u8> {
+    let mut out = [0; TEXT_BYTES];
+    let reply = plan(input, &mut out);
+    if reply.number == 0 {
+        out[..reply.length as usize].to_vec()
+    } else {
+        format!("refused\t{}\t{}\n", reply.number, reply.place).into_bytes()
+    }
+}
+
+#[cfg(test)]
+mod tests {
+    use super::*;
+
+    fn bytes(shown: &str) -> Vec<u8> {
+        shown.replace(" / ", "\n").replace('/', "\n").replace(' ', "\t").into_bytes()
+    }
+
+    #[test]
+    fn worked_program() {
+        let input = bytes("circuit 60 20 2 / in / const 7 / mul 0 1 / mul 2 1 / mul 3 3 / out 4/");
+        let output = bytes(
+            "schedule 60 20 2 / in / const 7 / enc 1 20 2 / mul 0 2 / enc 1 20 2 / mul 3 4 / us 5 20 / rs 6 1 / us 5 20 \
+             / rs 8 1 / mul 7 9 / out 10/",
+        );
+        assert_eq!(program(&input), output);
+        assert_eq!(check(&input, &output), Reply::success(0));
+        assert_eq!(program(&bytes("circuit 60 20 1/in/mul 0 0/mul 1 1/")), b"refused\t6\t4\n");
+    }
+
+    #[test]
+    fn worked_header_only() {
+        let mut out = [b'#'; 20];
+        let reply = plan(&bytes("circuit 60 20 1/"), &mut out);
+        assert_eq!(reply, Reply::success(17));
+        assert_eq!(&out[..], b"schedule\t60\t20\t1\n###");
+        assert_eq!(least_level(&bytes("circuit 60 20 60/")), Reply::success(1));
+    }
+
+    #[test]
+    fn a_buffer_of_exactly_the_length_is_enough() {
+        let circuit = bytes("circuit 60 20 1/in/");
+        let needed = bytes("schedule 60 20 1/in/").len();
+        let mut out = vec![b'#'; needed - 1];
+        assert_eq!(plan(&circuit, &mut out), Reply::too_short());
+        assert!(out.iter().all(|&byte| byte == b'#'));
+        assert_eq!(plan(&circuit, &mut vec![0; needed]), Reply::success(needed as u32));
+        // 13 comes after all else.
+        assert_eq!(plan(&bytes("circuit 59 60 1/in/"), &mut []).number, 6);
+    }
+
+    #[test]
+    fn files_are_named_in_the_order_read() {
+        let circuit = bytes("circuit 60 20 1/in/");
+        let refused = |number, file, place| Reply { number, file, place, length: 0 };
+        assert_eq!(check(b"", b""), refused(1, 1, 1));
+        assert_eq!(check(&circuit, b""), refused(1, 2, 1));
+        assert_eq!(check(&circuit, &bytes("schedule 60 20 1/")), refused(12, 1, 2));
+        assert_eq!(check(&circuit, &bytes("schedule 60 20 1/in/us 0 41/")), refused(9, 2, 3));
+        assert_eq!(check(&circuit, &bytes("schedule 60 20 2/in/us 0 41/")), refused(12, 1, 1));
+    }
+}

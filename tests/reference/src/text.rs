@@ -1,0 +1,618 @@
+//! The two files: text to table and back, with refusals 1, 2, 3, 4, 5 and 11.
+
+/// "at most 256 lines" after the header of a circuit.
+pub const CIRCUIT_LINES: usize = 256;
+/// "at most 1,792 lines" after the header of a schedule.
+pub const SCHEDULE_LINES: usize = 1792;
+/// Erase refuses "also the 257th line whose first field is a circuit word".
+pub const KEPT_LINES: usize = 256;
+/// "A field that is no number gives 1, as does one over 11 bytes."
+const FIELD_BYTES: usize = 11;
+/// The longest line is an `enc` of 17 bytes, the longest header has 18.
+pub const TEXT_BYTES: usize = 18 + 17 * SCHEDULE_LINES;
+
+/// F is the rescale factor, W the waterline, L the top level.
+#[derive(Clone, Copy, PartialEq, Eq, Debug)]
+pub struct Header {
+    pub factor: i32,
+    pub waterline: i32,
+    pub top_level: i32,
+}
+
+/// One line after the header; `a` and `b` are operands, "a value number counts the lines after the header from 0".
+#[derive(Clone, Copy, PartialEq, Eq, Debug)]
+pub enum Line {
+    In,
+    Const { number: u16 },
+    Neg { a: u16 },
+    Rot { a: u16, by: i16 },
+    Add { a: u16, b: u16 },
+    Mul { a: u16, b: u16 },
+    Out { a: u16 },
+    Enc { a: u16, scale: u16, level: u8 },
+    Rescale { a: u16, count: u8 },
+    Modswitch { a: u16, count: u8 },
+    Upscale { a: u16, bits: u16 },
+}
+
+/// What an operand finds on the line that it names.
+#[derive(Clone, Copy, PartialEq, Eq, Debug)]
+pub enum ValueKind {
+    Ciphertext,
+    Constant,
+    Encoded,
+    /// An `out` line cannot be named.
+    Unusable,
+}
+
+impl Line {
+    pub fn kind(self) -> ValueKind {
+        match self {
+            Line::Const { .. } => ValueKind::Constant,
+            Line::Enc { .. } => ValueKind::Encoded,
+            Line::Out { .. } => ValueKind::Unusable,
+            _ => ValueKind::Ciphertext,
+        }
+    }
+
+    /// The line that an encode, rescale, modswitch or upscale line was made from; none for a line with a circuit word.
+    pub fn struck_from(self) -> Option<u16> {
+        match self {
+            Line::Enc { a, .. } | Line::Rescale { a, .. } | Line::Modswitch { a, .. } | Line::Upscale { a, .. } => Some(a),
+            _ => None,
+        }
+    }
+
+    /// The same line with other operands.
+    pub fn with_operands(self, rename: impl Fn(u16) -> u16) -> Line {
+        match self {
+            Line::In | Line::Const { .. } => self,
+            Line::Neg { a } => Line::Neg { a: rename(a) },
+            Line::Rot { a, by } => Line::Rot { a: rename(a), by },
+            Line::Add { a, b } => Line::Add { a: rename(a), b: rename(b) },
+            Line::Mul { a, b } => Line::Mul { a: rename(a), b: rename(b) },
+            Line::Out { a } => Line::Out { a: rename(a) },
+            Line::Enc { a, scale, level } => Line::Enc { a: rename(a), scale, level },
+            Line::Rescale { a, count } => Line::Rescale { a: rename(a), count },
+            Line::Modswitch { a, count } => Line::Modswitch { a: rename(a), count },
+            Line::Upscale { a, bits } => Line::Upscale { a: rename(a), bits },
+        }
+    }
+}
+
+/// A file as a table: its header and its lines in order.
+#[derive(Clone)]
+pub struct File {
+    pub header: Header,
+    lines: [Line; SCHEDULE_LINES],
+    count: usize,
+}
+
+impl File {
+    pub fn empty(header: Header) -> File {
+        File { header, lines: [Line::In; SCHEDULE_LINES], count: 0 }
+    }
+
+    /// "A call starts from a table of 1,792 line records, all free."
+    pub fn free() -> File {
+        File::empty(Header { factor: 0, waterline: 0, top_level: 0 })
+    }
+
+    pub fn lines(&self) -> &[Line] {
+        &self.lines[..self.count]
+    }
+
+    /// Adds a line and gives its value number. The caller sees to it that the table has room.
+    pub fn push(&mut self, line: Line) -> u16 {
+        let number = self.count;
+        self.lines[number] = line;
+        self.count += 1;
+        number as u16
+    }
+
+    /// Keeps only the first `count` lines.
+    pub fn cut(&mut self, count: usize) {
+        self.count = self.count.min(count);
+    }
+
+    pub fn replace(&mut self, number: usize, line: Line) {
+        assert!(number < self.count);
+        self.lines[number] = line;
+    }
+}
+
+/// A refusal: "its number and place". "A place counts all text lines from 1, so value n stands at place n + 2."
+#[derive(Clone, Copy, PartialEq, Eq, Debug)]
+pub struct Refusal {
+    pub number: u32,
+    pub place: u32,
+}
+
+impl Refusal {
+    /// A refusal at the line of value `n`.
+    pub fn at_value(number: u32, n: usize) -> Refusal {
+        Refusal { number, place: n as u32 + 2 }
+    }
+}
+
+/// What a file is read as. Erase has a limit of its own on the lines with circuit words.
+#[derive(Clone, Copy, PartialEq, Eq, Debug)]
+pub enum Reading {
+    Circuit,
+    Schedule,
+    ScheduleToErase,
+}
+
+impl Reading {
+    fn header_word(self) -> &'static [u8] {
+        match self {
+            Reading::Circuit => b"circuit",
+            Reading::Schedule | Reading::ScheduleToErase => b"schedule",
+        }
+    }
+
+    fn line_limit(self) -> usize {
+        match self {
+            Reading::Circuit => CIRCUIT_LINES,
+            Reading::Schedule | Reading::ScheduleToErase => SCHEDULE_LINES,
+        }
+    }
+
+    /// The kind that stands beside a ciphertext: a constant "(in a circuit) or encoded constant (in a schedule)".
+    fn constant_kind(self) -> ValueKind {
+        match self {
+            Reading::Circuit => ValueKind::Constant,
+            Reading::Schedule | Reading::ScheduleToErase => ValueKind::Encoded,
+        }
+    }
+}
+
+/// Reads a whole file into a table of its own.
+pub fn file_of(bytes: &[u8], reading: Reading) -> Result<File, Refusal> {
+    let mut file = File::free();
+    read(bytes, reading, &mut file).map(|()| file)
+}
+
+/// Reads a whole file into a free table: "Files are read top to bottom ...; per line 3, 1, 2 or 11, 4, 5."
+pub fn read(bytes: &[u8], reading: Reading, file: &mut File) -> Result<(), Refusal> {
+    // The empty file has no header line: it is refused here as not closed.
+    let (content, closed, mut rest) = cut_line(bytes);
+    let header = if closed { read_header(content, reading) } else { Err(1) };
+    file.header = header.map_err(|number| Refusal { number, place: 1 })?;
+    let mut kept = 0;
+    while !rest.is_empty() {
+        let (content, closed, after) = cut_line(rest);
+        let place = file.count;
+        let refused = |number| Refusal::at_value(number, place);
+        // 3 comes before the form: any byte past the last allowed line is a line too many.
+        if file.count == reading.line_limit() {
+            return Err(refused(3));
+        }
+        if reading == Reading::ScheduleToErase && kept == KEPT_LINES && begins_with_circuit_word(content) {
+            return Err(refused(3));
+        }
+        if !closed {
+            return Err(refused(1));
+        }
+        let line = read_line(content, reading, file).map_err(refused)?;
+        if line.struck_from().is_none() {
+            kept += 1;
+        }
+        file.push(line);
+        rest = after;
+    }
+    Ok(())
+}
+
+/// The first line without its line feed, whether a line feed closes it, and the bytes after it.
+fn cut_line(bytes: &[u8]) -> (&[u8], bool, &[u8]) {
+    match bytes.iter().position(|&byte| byte == b'\n') {
+        Some(end) => (&bytes[..end], true, &bytes[end + 1..]),
+        None => (bytes, false, &[]),
+    }
+}
+
+/// "fields parted by one tab": two tabs in a row part an empty field, which is of no form.
+fn fields(content: &[u8]) -> impl Iterator<Item = &[u8]> {
+    content.split(|&byte| byte == b'\t')
+}
+
+fn read_header(content: &[u8], reading: Reading) -> Result<Header, u32> {
+    let mut fields = fields(content);
+    if fields.next() != Some(reading.header_word()) {
+        return Err(1);
+    }
+    let mut numbers = [0; 3];
+    for slot in &mut numbers {
+        *slot = fields.next().and_then(read_number).ok_or(1u32)?;
+    }
+    if fields.next().is_some() {
+        return Err(1);
+    }
+    // "all whole numbers from 1 to 60"
+    if numbers.iter().any(|number| !(1..=60).contains(number)) {
+        return Err(2);
+    }
+    let [factor, waterline, top_level] = numbers.map(|number| number as i32);
+    Ok(Header { factor, waterline, top_level })
+}
+
+#[derive(Clone, Copy, PartialEq, Eq)]
+enum Word {
+    In,
+    Const,
+    Neg,
+    Rot,
+    Add,
+    Mul,
+    Out,
+    Enc,
+    Rescale,
+    Modswitch,
+    Upscale,
+}
+
+impl Word {
+    fn of(field: &[u8]) -> Option<Word> {
+        Some(match field {
+            b"in" => Word::In,
+            b"const" => Word::Const,
+            b"neg" => Word::Neg,
+            b"rot" => Word::Rot,
+            b"add" => Word::Add,
+            b"mul" => Word::Mul,
+            b"out" => Word::Out,
+            b"enc" => Word::Enc,
+            b"rs" => Word::Rescale,
+            b"ms" => Word::Modswitch,
+            b"us" => Word::Upscale,
+            _ => return None,
+        })
+    }
+
+    fn is_circuit_word(self) -> bool {
+        !matches!(self, Word::Enc | Word::Rescale | Word::Modswitch | Word::Upscale)
+    }
+
+    /// What the numbers after the word are.
+    fn numbers(self) -> &'static [Number] {
+        match self {
+            Word::In => &[],
+            Word::Const => &[Number::Constant],
+            Word::Neg | Word::Out => &[Number::Operand],
+            Word::Rot => &[Number::Operand, Number::Rotation],
+            Word::Add | Word::Mul => &[Number::Operand, Number::Operand],
+            Word::Enc => &[Number::Operand, Number::Scale, Number::Level],
+            Word::Rescale | Word::Modswitch => &[Number::Operand, Number::Count],
+            Word::Upscale => &[Number::Operand, Number::Scale],
+        }
+    }
+}
+
+/// What a number field stands for.
+#[derive(Clone, Copy, PartialEq, Eq)]
+enum Number {
+    Operand,
+    Constant,
+    Rotation,
+    /// S of `enc` and B of `us`.
+    Scale,
+    /// E of `enc`.
+    Level,
+    /// C of `rs` and `ms`.
+    Count,
+}
+
+impl Number {
+    /// "An operand number has no range of its own: too large is 4."
+    fn in_range(self, value: i64, header: &Header) -> bool {
+        match self {
+            Number::Operand => true,
+            Number::Constant => (0..=65_535).contains(&value),
+            Number::Rotation => (-32_767..=32_767).contains(&value),
+            Number::Scale => (1..=3600).contains(&value),
+            Number::Level => (1..=i64::from(header.top_level)).contains(&value),
+            Number::Count => (1..=60).contains(&value),
+        }
+    }
+}
+
+/// "A minus stands only before a nonzero rotation."
+fn read_field(number: Number, field: &[u8]) -> Option<i64> {
+    match field.strip_prefix(b"-") {
+        Some(digits) if number == Number::Rotation && field.len() <= FIELD_BYTES => {
+            read_number(digits).filter(|&value| value != 0).map(|value| -value)
+        }
+        _ => read_number(field),
+    }
+}
+
+/// "Numbers are decimal without leading zeros or plus". Eleven digits fit without wrap.
+fn read_number(field: &[u8]) -> Option<i64> {
+    let leading_zero = field.len() > 1 && field[0] == b'0';
+    if field.is_empty() || field.len() > FIELD_BYTES || leading_zero {
+        return None;
+    }
+    let mut value = 0i64;
+    for &byte in field {
+        if !byte.is_ascii_digit() {
+            return None;
+        }
+        value = value * 10 + i64::from(byte - b'0');
+    }
+    Some(value)
+}
+
+fn begins_with_circuit_word(content: &[u8]) -> bool {
+    fields(content).next().and_then(Word::of).is_some_and(Word::is_circuit_word)
+}
+
+/// A line of the form: its word and the numbers after it.
+struct Record {
+    word: Word,
+    numbers: [i64; 3],
+}
+
+fn read_record(content: &[u8], reading: Reading) -> Option<Record> {
+    let mut fields = fields(content);
+    let word = Word::of(fields.next()?)?;
+    if reading == Reading::Circuit && !word.is_circuit_word() {
+        return None;
+    }
+    let mut numbers = [0; 3];
+    for (slot, &number) in numbers.iter_mut().zip(word.numbers()) {
+        *slot = read_field(number, fields.next()?)?;
+    }
+    match fields.next() {
+        Some(_) => None,
+        None => Some(Record { word, numbers }),
+    }
+}
+
+/// In a line all form comes first, then all ranges, then all 4, then all 5.
+fn read_line(content: &[u8], reading: Reading, file: &File) -> Result<Line, u32> {
+    let record = read_record(content, reading).ok_or(1u32)?;
+    let numbers = record.word.numbers();
+    let given = || numbers.iter().zip(&record.numbers);
+    if given().any(|(number, &value)| !number.in_range(value, &file.header)) {
+        return Err(11);
+    }
+    if given().any(|(&number, &value)| number == Number::Operand && !usable(value, file)) {
+        return Err(4);
+    }
+    if !kinds_fit(&record, reading, file) {
+        return Err(5);
+    }
+    Ok(line_of(&record))
+}
+
+/// "A and B name earlier lines that are not `out`."
+fn usable(operand: i64, file: &File) -> bool {
+    operand < file.count as i64 && file.lines[operand as usize].kind() != ValueKind::Unusable
+}
+
+fn kinds_fit(record: &Record, reading: Reading, file: &File) -> bool {
+    let kind = |field: usize| file.lines[record.numbers[field] as usize].kind();
+    match record.word {
+        Word::In | Word::Const => true,
+        Word::Enc => kind(0) == ValueKind::Constant,
+        Word::Neg | Word::Rot | Word::Out | Word::Rescale | Word::Modswitch | Word::Upscale => kind(0) == ValueKind::Ciphertext,
+        Word::Add | Word::Mul => match (kind(0), kind(1)) {
+            (ValueKind::Ciphertext, ValueKind::Ciphertext) => true,
+            (ValueKind::Ciphertext, other) | (other, ValueKind::Ciphertext) => other == reading.constant_kind(),
+            _ => false,
+        },
+    }
+}
+
+/// The numbers are in their ranges here, so no cast loses a bit.
+fn line_of(record: &Record) -> Line {
+    let [first, second, third] = record.numbers;
+    let a = first as u16;
+    match record.word {
+        Word::In => Line::In,
+        Word::Const => Line::Const { number: first as u16 },
+        Word::Neg => Line::Neg { a },
+        Word::Rot => Line::Rot { a, by: second as i16 },
+        Word::Add => Line::Add { a, b: second as u16 },
+        Word::Mul => Line::Mul { a, b: second as u16 },
+        Word::Out => Line::Out { a },
+        Word::Enc => Line::Enc { a, scale: second as u16, level: third as u8 },
+        Word::Rescale => Line::Rescale { a, count: second as u8 },
+        Word::Modswitch => Line::Modswitch { a, count: second as u8 },
+        Word::Upscale => Line::Upscale { a, bits: second as u16 },
+    }
+}
+
+/// The text of a file, built up in a table of its own so that a refused call writes no byte of the lent buffer.
+pub struct Text {
+    bytes: [u8; TEXT_BYTES],
+    length: usize,
+}
+
+impl Text {
+    pub fn free() -> Text {
+        Text { bytes: [0; TEXT_BYTES], length: 0 }
+    }
+
+    pub fn bytes(&self) -> &[u8] {
+        &self.bytes[..self.length]
+    }
+
+    fn put(&mut self, byte: u8) {
+        self.bytes[self.length] = byte;
+        self.length += 1;
+    }
+
+    /// A tab and a number.
+    fn put_number(&mut self, number: i32) {
+        self.put(b'\t');
+        if number < 0 {
+            self.put(b'-');
+        }
+        let mut digits = [0; 10];
+        let mut count = 0;
+        let mut left = number.unsigned_abs();
+        loop {
+            digits[count] = b'0' + (left % 10) as u8;
+            count += 1;
+            left /= 10;
+            if left == 0 {
+                break;
+            }
+        }
+        // The lowest digit was found first.
+        for &digit in digits[..count].iter().rev() {
+            self.put(digit);
+        }
+    }
+
+    fn put_record(&mut self, word: &[u8], numbers: &[i32]) {
+        for &byte in word {
+            self.put(byte);
+        }
+        for &number in numbers {
+            self.put_number(number);
+        }
+        self.put(b'\n');
+    }
+
+    fn put_line(&mut self, line: Line) {
+        let n = i32::from;
+        match line {
+            Line::In => self.put_record(b"in", &[]),
+            Line::Const { number } => self.put_record(b"const", &[i32::from(number)]),
+            Line::Neg { a } => self.put_record(b"neg", &[n(a)]),
+            Line::Rot { a, by } => self.put_record(b"rot", &[n(a), i32::from(by)]),
+            Line::Add { a, b } => self.put_record(b"add", &[n(a), n(b)]),
+            Line::Mul { a, b } => self.put_record(b"mul", &[n(a), n(b)]),
+            Line::Out { a } => self.put_record(b"out", &[n(a)]),
+            Line::Enc { a, scale, level } => self.put_record(b"enc", &[n(a), n(scale), i32::from(level)]),
+            Line::Rescale { a, count } => self.put_record(b"rs", &[n(a), i32::from(count)]),
+            Line::Modswitch { a, count } => self.put_record(b"ms", &[n(a), i32::from(count)]),
+            Line::Upscale { a, bits } => self.put_record(b"us", &[n(a), n(bits)]),
+        }
+    }
+}
+
+/// Writes a file under the header word of `reading`.
+pub fn write(file: &File, reading: Reading, text: &mut Text) {
+    let Header { factor, waterline, top_level } = file.header;
+    text.put_record(reading.header_word(), &[factor, waterline, top_level]);
+    for &line in file.lines() {
+        text.put_line(line);
+    }
+}
+
+/// The text of a file as bytes of its own.
+pub fn bytes_of(file: &File, reading: Reading) -> Vec<u8> {
+    let mut text = Text::free();
+    write(file, reading, &mut text);
+    text.bytes().to_vec()
+}
+
+#[cfg(test)]
+mod tests {
+    use super::*;
+
+    /// Tests write spaces for tabs and `/` for line ends, as document 01 does.
+    fn refusal(shown: &str, reading: Reading) -> Option<(u32, u32)> {
+        let bytes = shown.replace(" / ", "\n").replace('/', "\n").replace(' ', "\t");
+        file_of(bytes.as_bytes(), reading).err().map(|refusal| (refusal.number, refusal.place))
+    }
+
+    fn circuit(shown: &str) -> Option<(u32, u32)> {
+        refusal(shown, Reading::Circuit)
+    }
+
+    fn schedule(shown: &str) -> Option<(u32, u32)> {
+        refusal(shown, Reading::Schedule)
+    }
+
+    #[test]
+    fn worked_texts() {
+        assert_eq!(circuit("circuit 60 20 1/in/rot 0 -32768/"), Some((11, 3)));
+        assert_eq!(circuit("circuit 60 20 1/const 007/"), Some((1, 2)));
+        assert_eq!(circuit(""), Some((1, 1)));
+        assert_eq!(circuit("circuit 60 20 1/"), None);
+    }
+
+    #[test]
+    fn ends_and_empty_lines() {
+        assert_eq!(circuit("circuit 60 20 1"), Some((1, 1)));
+        assert_eq!(circuit("circuit 60 20 1/in"), Some((1, 2)));
+        assert_eq!(circuit("circuit 60 20 1//in/"), Some((1, 2)));
+        assert_eq!(circuit("schedule 60 20 1/"), Some((1, 1)));
+        assert_eq!(schedule("circuit 60 20 1/"), Some((1, 1)));
+        assert_eq!(circuit("circuit 60 20 61/"), Some((2, 1)));
+        assert_eq!(circuit("circuit 0 20 x/"), Some((1, 1)));
+    }
+
+    #[test]
+    fn numbers() {
+        for bad in ["-0", "-", "+1", "01", "", "1x", "123456789012", "-12345678901"] {
+            assert_eq!(circuit(&format!("circuit 60 20 1/in/rot 0 {bad}/")), Some((1, 3)), "{bad}");
+        }
+        assert_eq!(circuit("circuit 60 20 1/in/rot 0 -1234567890/"), Some((11, 3)));
+        assert_eq!(circuit("circuit 60 20 1/in/rot 0 99999999999/"), Some((11, 3)));
+        assert_eq!(circuit("circuit 60 20 1/in/neg 99999999999/"), Some((4, 3)));
+        assert_eq!(circuit("circuit 60 20 1/in/neg -1/"), Some((1, 3)));
+        assert_eq!(circuit("circuit 60 20 1/const 65535/const 65536/"), Some((11, 3)));
+    }
+
+    #[test]
+    fn order_within_a_line() {
+        let base = "circuit 60 20 1/in/const 1/out 0/";
+        assert_eq!(circuit(&format!("{base}add 1 9/")), Some((4, 5)));
+        assert_eq!(circuit(&format!("{base}rot 9 99999/")), Some((11, 5)));
+        assert_eq!(circuit(&format!("{base}rot x 99999/")), Some((1, 5)));
+        assert_eq!(circuit(&format!("{base}neg 2/")), Some((4, 5)));
+        assert_eq!(circuit(&format!("{base}neg 3/")), Some((4, 5)));
+        assert_eq!(circuit(&format!("{base}add 1 1/")), Some((5, 5)));
+        assert_eq!(circuit(&format!("{base}enc 1 20 1/")), Some((1, 5)));
+    }
+
+    #[test]
+    fn kinds_in_a_schedule() {
+        let base = "schedule 60 20 2/in/const 1/enc 1 20 2/";
+        assert_eq!(schedule(&format!("{base}mul 2 0/add 0 2/")), None);
+        assert_eq!(schedule(&format!("{base}mul 0 1/")), Some((5, 5)));
+        assert_eq!(schedule(&format!("{base}mul 2 2/")), Some((5, 5)));
+        assert_eq!(schedule(&format!("{base}enc 2 20 2/")), Some((5, 5)));
+        assert_eq!(schedule(&format!("{base}us 2 1/")), Some((5, 5)));
+        assert_eq!(schedule(&format!("{base}enc 1 20 3/")), Some((11, 5)));
+        assert_eq!(schedule(&format!("{base}us 0 3601/")), Some((11, 5)));
+        assert_eq!(schedule(&format!("{base}rs 0 61/")), Some((11, 5)));
+    }
+
+    #[test]
+    fn line_limits() {
+        let ins = |count: usize| format!("circuit 60 20 1/{}", "in/".repeat(count));
+        assert_eq!(circuit(&ins(256)), None);
+        assert_eq!(circuit(&ins(257)), Some((3, 258)));
+        assert_eq!(circuit(&format!("{}x", ins(256))), Some((3, 258)));
+        let ups = |count: usize| format!("schedule 60 20 1/in/{}", "us 0 1/".repeat(count));
+        assert_eq!(schedule(&ups(1791)), None);
+        assert_eq!(schedule(&ups(1792)), Some((3, 1794)));
+    }
+
+    #[test]
+    fn kept_limit_of_erase() {
+        let erase = |shown: &str| refusal(shown, Reading::ScheduleToErase);
+        let kept = format!("schedule 60 20 1/{}us 0 1/", "in/".repeat(256));
+        assert_eq!(erase(&kept), None);
+        for last in ["in/", "in", "in x/", "mul/"] {
+            assert_eq!(erase(&format!("{kept}{last}")), Some((3, 259)), "{last}");
+        }
+        assert_eq!(erase(&format!("{kept}inx/")), Some((1, 259)));
+        assert_eq!(schedule(&format!("{kept}in/")), None);
+    }
+
+    #[test]
+    fn text_and_table_are_inverse() {
+        let shown = "schedule 60 20 2/in/const 65535/enc 1 3600 2/mul 0 2/us 3 20/rs 4 1/ms 5 60/rot 6 -32767/out 7/";
+        let bytes = shown.replace('/', "\n").replace(' ', "\t");
+        let Ok(file) = file_of(bytes.as_bytes(), Reading::Schedule) else { panic!("refused") };
+        assert_eq!(bytes_of(&file, Reading::Schedule), bytes.as_bytes());
+    }
+}
