@@ -1,5 +1,5 @@
 #!/usr/bin/env bash
-# Compares the archive with the Rust version that was written from document 01 alone, and makes each call of the benchmark a few times.
+# Compares the archive and the program with the Rust version that was written from document 01 alone, and makes each call of the benchmark a few times.
 set -euo pipefail
 cd "$(dirname "${BASH_SOURCE[0]}")/.."
 export GOWASHIRU_LIB="$PWD/target/staticlib"
@@ -8,4 +8,6 @@ cargo test --quiet --release --offline --manifest-path tests/reference/Cargo.tom
 cargo build --quiet --release --offline --manifest-path tests/reference/Cargo.toml
 cargo build --quiet --release --offline --manifest-path tests/bench/Cargo.toml
 target/tests/cargo/release/compare "$@"
+./plan.sh </dev/null >/dev/null
+target/tests/cargo/release/program target/bin/plan
 target/tests/cargo/release/bench --smoke

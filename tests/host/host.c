@@ -27,7 +27,7 @@
 #include <unistd.h>
 
 enum {
-    STACK = 320 * 1024,   /* what the header says to give a thread */
+    STACK = 128 * 1024,   /* what the header says to give a thread */
     ENOUGH = 131072,      /* what the header says is always enough for a plan */
     GUARD = 64,           /* bytes before and after each lent buffer */
     MOST_GROWTH = 256,    /* KiB */

@@ -35,9 +35,6 @@ module _ (x : Line) (i j : ℕ) where
   pub line-by : (v y : Line) → x ≡ v → y ≡ lineWith v i j → y ≡ lineWith x i j
   line-by v y e is = rw e is
 
-  pub rotation-by : (a : ℕ) (t : ℤ) → x ≡ Rot a t → SFits w32 t → Rot i (reading t) ≡ lineWith x i j
-  rotation-by a t e s = rw (e, toZ-ofZ w32 t s)
-
 pub line-named : (x y : Line) (o : Operands) (i j : ℕ) → i ≡ named (o .first) → j ≡ named (o .second) → y ≡ lineWith x i j → y ≡ lineWith x (named (o .first)) (named (o .second))
 line-named x y o i j e f is = rw (← e, ← f) is
 
@@ -89,7 +86,7 @@ module _ (h : Header) (x : Line) (own left right : Best) (p : Placement) (e : p 
   operands-are first second t u v w a s is b z js =
       rw (← e, ← a, ← b, ← toZ-ofZ w32 (p .first) s, ← toZ-ofZ w32 (p .second) z, ← is, ← js)
 
-pub ruleset operand-laws = (needs, line-by, rotation-by, line-named, first-left, first-next, first-rest, second-left, second-next, second-rest, constant-placement, first-reach, second-reach, operands-are)
+pub ruleset operand-laws = (needs, line-by, line-named, first-left, first-next, first-rest, second-left, second-next, second-rest, constant-placement, first-reach, second-reach, operands-are)
 
 -- ---- one conversion line more
 module _ (x : Line) (o : Operands) where

@@ -45,11 +45,17 @@ module _ (h : Header) (H : HeaderFacts h) where
 
   source : (b : Best) (r : ℤ) (l : ℕ) → ValidBest h H b → Valid h H r l → Supplies.Reaches h H b r l → Source h b r l
   source Bests.Constant r l u v x = omega (arith, v .fits)
-  source (Bests.Ciphertext p) r l u v x = record { whole = not-below (p .reserve) (u .whole); reserve = x .0; level = x .1 }
+  source (Bests.Ciphertext p) r l u v x = record {
+    whole = not-below (p .reserve) (u .whole);
+    most = omega (arith, u .fits, few-bits h H (p .level) (u .top));
+    top = omega (arith, u .top, H .top .most);
+    reserve = x .0;
+    level = x .1;
+  }
 
   reaches : (b : Best) (r : ℤ) (l : ℕ) → ValidBest h H b → Valid h H r l → Supplies.Reaches h H b r l → Reaches h b r l
   reaches b r l u v x =
-      record { factor = H .factor .least; modulus = few-bits h H l (v .top); whole = not-below r (v .whole); source = source b r l u v x }
+      record { factor = H .factor .least; modulus = few-bits h H l (v .top); level = v .top; top = H .top .most; whole = not-below r (v .whole); source = source b r l u v x }
 
   module _ (best : List Best) where
     -- what the line asks, where v is its best

@@ -97,6 +97,9 @@ module _ (h : Header) (b : Best) (r : ℤ) (l : ℕ) (R : Reaches h b r l) (s : 
     pub level-below : l ≤ p .level
     level-below = falls .level
 
+    pub levels-few : p .level - l ≤ 60
+    levels-few = omega (arith, falls .top)
+
     module _ (t : SFits w32 (p .reserve)) where
       pub reserve-whole : pos 0 ≤ℤ reading (p .reserve)
       reserve-whole = rw (same (p .reserve) t) (falls .whole)
@@ -104,6 +107,9 @@ module _ (h : Header) (b : Best) (r : ℤ) (l : ℕ) (R : Reaches h b r l) (s : 
       module _ (m : ℕ) (f : m ≡ positive (reading (p .reserve))) where
         pub reserve-below : k ≤ m
         reserve-below = omega (arith, kept, f ∙ ap positive (same (p .reserve) t), falls .reserve)
+
+        pub distance-few : m - k ≤ 3600
+        distance-few = omega (arith, f ∙ ap positive (same (p .reserve) t), falls .most)
 
         pub ciphertext-work : (number : ℕ) (w : Work) → w ≡ conversionFor h (m - k) (p .level - l) number → w ≡ workFor h b r l number
         unfolding workFor
@@ -197,7 +203,7 @@ module _ (w : Work) where
       unfolding restOf
       rescales-rest v f g is = rw (e, f, g) is
 
-pub ruleset work-laws = (needs, cast-whole, cast-is, cast-fits, switches-below, switches-fit, switches-few, conversion-is, constant-below, constant-work, level-below, reserve-whole, reserve-below, ciphertext-work, not-brought, is-brought, brought-reaches, encode-left, encode-next, encode-rest, encode-named, convert-named, switches-left, upscale-left, rescales-left, switches-next, upscale-next, rescales-next, switches-rest, upscale-rest, rescales-rest)
+pub ruleset work-laws = (needs, cast-whole, cast-is, cast-fits, switches-below, switches-fit, switches-few, conversion-is, constant-below, constant-work, level-below, levels-few, reserve-whole, reserve-below, distance-few, ciphertext-work, not-brought, is-brought, brought-reaches, encode-left, encode-next, encode-rest, encode-named, convert-named, switches-left, upscale-left, rescales-left, switches-next, upscale-next, rescales-next, switches-rest, upscale-rest, rescales-rest)
 
 -- ---- one line more
 module _ (lines : List Line) where

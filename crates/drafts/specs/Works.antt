@@ -68,9 +68,11 @@ worked (Encode a s l) lines = emitConversion lines (Enc a s l)
 worked (Convert a switches upscale rescales) lines =
     unlessZero Rs rescales (unlessZero Us upscale (unlessZero Ms switches (record { lines = lines; number = a })))
 
--- A ciphertext that can be brought to reserve r at level l: it has no less of either.
+-- A ciphertext that can be brought to reserve r at level l: it has no less of either, and no more than the greatest F·L and L.
 pub record Falls (p : Placement) (r : ℤ) (l : ℕ) : Type 0 where
   pub whole : pos 0 ≤ℤ p .reserve
+  pub most : positive (p .reserve) ≤ 3600
+  pub top : p .level ≤ 60
   pub reserve : positive r ≤ positive (p .reserve)
   pub level : l ≤ p .level
 
@@ -82,5 +84,7 @@ Source h (Bests.Ciphertext p) r l = Falls p r l
 pub record Reaches (h : Header) (b : Best) (r : ℤ) (l : ℕ) : Type 0 where
   pub factor : 1 ≤ h .factor
   pub modulus : h .factor * l ≤ 3600
+  pub level : l ≤ h .top
+  pub top : h .top ≤ 60
   pub whole : pos 0 ≤ℤ r
   pub source : Source h b r l

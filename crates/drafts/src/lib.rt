@@ -8,15 +8,13 @@ use model::Header;
 use model::Known;
 use model::Line;
 use model::Placement;
-use model::Record;
-use model::Table;
 ghost use mathlib.Core.Path.{_≡_};
 ghost use Prim.Native.Nat.{_≤_};
 ghost use Rattle.model.specs.declared.Grammar.the-variants.{Circuit};
-ghost use Rattle.model.specs.Files.{tableLines, TableFormed};
+ghost use Rattle.model.specs.Files.{TableFormed};
 ghost use Rattle.model.specs.Machine.{finished, run};
 ghost use Rattle.model.specs.Plan.{bestMachine, placementOf, planLines};
-ghost use Rattle.text.specs.Files.{RestFree};
+ghost use Rattle.tables.specs.Records.{linesHeld, freeRecords, held};
 ghost use Rattle.drafts.specs.Bests.{bestsOf};
 ghost use Rattle.drafts.specs.Operands.{operandsFor, OperandsReach};
 
@@ -42,9 +40,9 @@ fn operands_of(
     line: Line,
     own: Known,
     left: Known,
-    first: u32,
+    first: u16,
     right: Known,
-    second: u32,
+    second: u16,
 ) -> Operands
     requires { ⌜ OperandsReach header line (own .best) (left .best) (right .best) ⌝ }
     ensures { λ r. ⌜ r ≡ operandsFor header line (own .best) (left .best) first (right .best) second ⌝ }
@@ -75,24 +73,26 @@ fn operands_of(
     }
 }
 
-// The plan of a circuit whose lines are done as `known` says. The one loop that owns the schedule's table fills it in place; beside it stand
-// the numbers that the circuit's lines have in the schedule.
-pub fn plan_table(circuit: Table, known: [Known; 256]) -> Table
-    requires { ⌜ TableFormed Circuit circuit ⌝ }
-    requires { ⌜ run (bestMachine (circuit .header)) (tableLines circuit) ≡ finished (bestsOf known (circuit .count)) ⌝ }
-    ensures { λ r. ⌜ r .header ≡ circuit .header ⌝ }
-    ensures { λ r. ⌜ tableLines r ≡ planLines (circuit .header) (bestsOf known (circuit .count)) (tableLines circuit) ⌝ }
-    ensures room { λ r. ⌜ RestFree r ⌝ }
-    ensures few { λ r. ⌜ r .count ≤ 1792 ⌝ }
+// The plan of a circuit whose lines are done as `known` says, into records that are free, and how many lines it has. Beside it stand the
+// numbers that the circuit's lines have in the schedule.
+pub fn plan_table(
+    header: Header,
+    circuit: &[[u16; 4]],
+    size: usize,
+    known: [Known; 256],
+    schedule: &mut [[u16; 4]],
+) -> usize
+    requires { ⌜ TableFormed Circuit (held header (now circuit) size) ⌝ }
+    requires { ⌜ run (bestMachine header) (linesHeld (now circuit) size) ≡ finished (bestsOf known size) ⌝ }
+    requires { ⌜ now schedule ≡ freeRecords ⌝ }
+    ensures { λ r. ⌜ linesHeld (now (schedule .exit)) r ≡ planLines header (bestsOf known size) (linesHeld (now (circuit .entry)) size) ⌝ }
+    ensures few { λ r. ⌜ r ≤ 1792 ⌝ }
 {
-    let header = circuit.header;
-    let size = circuit.count;
-    let mut table = tables::empty(header);
-    let mut numbers = [0u32; 256];
+    let mut numbers = [0u16; 256];
+    let mut number: usize = 0;
     let mut i: usize = 0;
     while i < size {
-        let record = circuit.lines[i];
-        let line = record.line;
+        let line = tables::line_at(circuit, i);
         let a = tables::first_operand(line) as usize;
         let b = tables::second_operand(line) as usize;
         let own = known[i];
@@ -100,18 +100,16 @@ pub fn plan_table(circuit: Table, known: [Known; 256]) -> Table
         let right = known[b];
         let mut operands = operands_of(header, line, own, left, numbers[a], right, numbers[b]);
         while operands::is_left(operands) {
-            let number = table.count;
             let conversion = operands::next_line(operands);
-            table.lines[number] = Record { line: conversion };
-            table.count = number + 1;
-            operands = operands::rest_of(operands, number as u32);
+            schedule[number] = tables::record_of(conversion);
+            operands = operands::rest_of(operands, number as u16);
+            number += 1;
         }
-        let number = table.count;
         let renumbered = operands::line_of(line, operands);
-        table.lines[number] = Record { line: renumbered };
-        table.count = number + 1;
-        numbers[i] = number as u32;
+        schedule[number] = tables::record_of(renumbered);
+        numbers[i] = number as u16;
+        number += 1;
         i += 1;
     }
-    table
+    number
 }

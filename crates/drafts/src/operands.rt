@@ -3,7 +3,9 @@ use crate::works;
 use crate::works::Work;
 use model::Line;
 ghost use mathlib.Core.Path.{_≡_};
+ghost use Prim.Native.Nat.{_≤_};
 ghost use lib.Dec.{ltb};
+ghost use Rattle.tables.specs.Records.{levelOf};
 ghost use Rattle.drafts.specs.Operands.{bringsFirst, bringsSecond, lineWith, leftOf, nextLine, restAfter};
 ghost use Rattle.drafts.specs.Works.{named};
 
@@ -76,6 +78,7 @@ pub fn is_left(operands: Operands) -> bool
 // The next conversion line: the first operand's, then the second's.
 pub fn next_line(operands: Operands) -> Line
     ensures { λ r. ⌜ r ≡ nextLine operands ⌝ }
+    ensures level { λ r. ⌜ levelOf r ≤ 65535 ⌝ }
 {
     let first = operands.first;
     if works::is_left(first) {
@@ -86,7 +89,7 @@ pub fn next_line(operands: Operands) -> Line
 }
 
 // What is left once that line is written and its value has this number.
-pub fn rest_of(operands: Operands, number: u32) -> Operands
+pub fn rest_of(operands: Operands, number: u16) -> Operands
     ensures { λ r. ⌜ r ≡ restAfter operands number ⌝ }
 {
     let first = operands.first;
@@ -104,7 +107,7 @@ pub fn rest_of(operands: Operands, number: u32) -> Operands
 }
 
 // A circuit line with other operands.
-pub fn line_with(line: Line, first: u32, second: u32) -> Line
+pub fn line_with(line: Line, first: u16, second: u16) -> Line
     ensures { λ r. ⌜ r ≡ lineWith line first second ⌝ }
 {
     match line {

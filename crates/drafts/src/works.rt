@@ -9,25 +9,26 @@ ghost use lib.Dec.{ltb};
 ghost use lib.IntN.{pos};
 ghost use lib.Signed.{_≤ℤ_};
 ghost use Rattle.ints.specs.Parts.{positive};
+ghost use Rattle.tables.specs.Records.{levelOf};
 ghost use Rattle.drafts.specs.Works.{asItIs, conversionFor, workFor, workOf, left, nextOf, restOf, named, Reaches};
 
 // An encoded constant, or the modswitches, bits of upscale and rescales of a ciphertext, each 0 once it is written or where none is needed.
 pub enum Work {
     Encode {
-        of: u32,
-        scale: u32,
-        level: u32,
+        of: u16,
+        scale: u16,
+        level: u16,
     },
     Convert {
-        number: u32,
-        modswitches: u32,
-        upscale: u32,
-        rescales: u32,
+        number: u16,
+        modswitches: u16,
+        upscale: u16,
+        rescales: u16,
     },
 }
 
 // Nothing is left to write: the value is named as it is.
-fn as_it_is(number: u32) -> Work
+fn as_it_is(number: u16) -> Work
     ensures { λ r. ⌜ r ≡ asItIs number ⌝ }
 {
     Work::Convert {
@@ -54,22 +55,24 @@ fn lesser(a: u32, b: u32) -> u32
 }
 
 // What takes `distance` bits of reserve and so many levels.
-fn conversion(header: Header, distance: u32, levels: u32, number: u32) -> Work
+fn conversion(header: Header, distance: u32, levels: u32, number: u16) -> Work
     requires { ⌜ 1 ≤ header .factor ⌝ }
+    requires { ⌜ distance ≤ 3600 ⌝ }
+    requires { ⌜ levels ≤ 60 ⌝ }
     ensures { λ r. ⌜ r ≡ conversionFor header distance levels number ⌝ }
 {
     let switches = lesser(distance / header.factor, levels);
     let switched = switches * header.factor;
     Work::Convert {
         number: number,
-        modswitches: switches,
-        upscale: distance - switched,
-        rescales: levels - switches,
+        modswitches: switches as u16,
+        upscale: (distance - switched) as u16,
+        rescales: (levels - switches) as u16,
     }
 }
 
 // What brings an operand to a reserve at a level.
-fn work_for(header: Header, best: Best, reserve: i32, level: u32, number: u32) -> Work
+fn work_for(header: Header, best: Best, reserve: i32, level: u32, number: u16) -> Work
     requires { ⌜ Reaches header best reserve level ⌝ }
     ensures { λ r. ⌜ r ≡ workFor header best reserve level number ⌝ }
 {
@@ -77,8 +80,8 @@ fn work_for(header: Header, best: Best, reserve: i32, level: u32, number: u32) -
     match best {
         Best::Constant => Work::Encode {
             of: number,
-            scale: header.factor * level - kept,
-            level: level,
+            scale: (header.factor * level - kept) as u16,
+            level: level as u16,
         },
         Best::Ciphertext(placement) => {
             let distance = bits(placement.reserve) - kept;
@@ -94,7 +97,7 @@ pub fn work_of(
     best: Best,
     reserve: i32,
     level: u32,
-    number: u32,
+    number: u16,
 ) -> Work
     requires { ⌜ (brought ≡ true → Reaches header best reserve level) ⌝ }
     ensures { λ r. ⌜ r ≡ workOf header brought best reserve level number ⌝ }
@@ -135,9 +138,14 @@ pub fn is_left(work: Work) -> bool
 // The next line to write.
 pub fn next_of(work: Work) -> Line
     ensures { λ r. ⌜ r ≡ nextOf work ⌝ }
+    ensures level { λ r. ⌜ levelOf r ≤ 65535 ⌝ }
 {
     match work {
-        Work::Encode { of, scale, level } => Line::Enc { of, scale, level },
+        Work::Encode { of, scale, level } => Line::Enc {
+            of,
+            scale,
+            level: level as u32,
+        },
         Work::Convert {
             number,
             modswitches,
@@ -156,7 +164,7 @@ pub fn next_of(work: Work) -> Line
 }
 
 // What is left once that line is written and its value has this number.
-pub fn rest_of(work: Work, number: u32) -> Work
+pub fn rest_of(work: Work, number: u16) -> Work
     ensures { λ r. ⌜ r ≡ restOf work number ⌝ }
 {
     match work {
@@ -193,7 +201,7 @@ pub fn rest_of(work: Work, number: u32) -> Work
 }
 
 // The number to name.
-pub fn number_of(work: Work) -> u32
+pub fn number_of(work: Work) -> u16
     ensures { λ r. ⌜ r ≡ named work ⌝ }
 {
     match work {

@@ -3,14 +3,15 @@ use Prim.Native.Nat.{ℕ, suc}
 use mathlib.Core.Path.{_≡_, refl, _∙_}
 use mathlib.Core.Bool.{Bool, true, false, cond}
 use mathlib.Core.List.{List, [], _∷_}
+use Rattle.model.specs.declared.Header.{Header}
 use Rattle.model.specs.declared.Line.{Line}
-use Rattle.model.specs.declared.Table.{Table}
 use Rattle.model.specs.declared.Answer.{Answer}
 use Rattle.model.specs.declared.Answer.the-variants.{Done, Refused}
-use Rattle.model.specs.Files.{File, placeOf, tableLines}
+use Rattle.model.specs.Files.{File, placeOf}
 use Rattle.model.specs.Services.{erase, eraseFile}
 use Rattle.model.specs.Refused.{sameLine, sameHeader, compared, rulesAnswer, check}
 use Rattle.text.specs.Files.{fileOf}
+use Rattle.tables.specs.Records.{linesHeld, held}
 use Rattle.erasing.specs.Comparing.{difference, afterDifference}
 
 -- one of two answers, then the rules
@@ -37,6 +38,10 @@ check-is circuit schedule =
 
 -- the same from what `erase_table` and `compare` ensure
 pub checked :
-    (circuit schedule erasure : Table) (d : Answer) → fileOf erasure ≡ eraseFile (fileOf schedule) → d ≡ difference (fileOf circuit) (fileOf erasure) →
-    check (fileOf circuit) (fileOf schedule) ≡ afterDifference d (rulesAnswer (schedule .header) (tableLines schedule))
-checked circuit schedule erasure d erases differs = check-is (fileOf circuit) (fileOf schedule) ∙ rw (differs, erases)
+    (header other : Header) (circuit schedule erasure : List (List ℕ)) (size count kept : ℕ) (d : Answer) →
+    linesHeld erasure kept ≡ erase (linesHeld schedule count) →
+    d ≡ difference (fileOf (held header circuit size)) (fileOf (held other erasure kept)) →
+    check (fileOf (held header circuit size)) (fileOf (held other schedule count))
+    ≡ afterDifference d (rulesAnswer other (linesHeld schedule count))
+checked header other circuit schedule erasure size count kept d erases differs =
+    check-is (fileOf (held header circuit size)) (fileOf (held other schedule count)) ∙ rw (differs, erases)

@@ -2,80 +2,131 @@
 use Prim.Native.Nat.{ℕ, _+_, _≤_, _<_, min}
 use native.Mathlib.Numerals.{add-one}
 use native.Mathlib.Omega.{arith}
-use mathlib.Core.Path.{_≡_, _∙_}
+use mathlib.Core.Path.{_≡_, refl, _∙_}
 use mathlib.Core.Bool.{Bool, true, false, cond}
+use mathlib.Core.List.{List}
 use mathlib.Core.Logic.{⊎-elim}
 use borrow.Author.Needs.{needs}
 use borrow.Author.Tests.{not-true, not-false}
-use lib.ListN.{length, drop}
+use lib.ListN.{length, getD, drop}
+use Rattle.model.specs.declared.Header.{Header}
 use Rattle.model.specs.declared.Line.{Line}
-use Rattle.model.specs.declared.Table.{Table}
+use Rattle.model.specs.declared.Line.the-variants.{Free}
 use Rattle.model.specs.declared.Answer.{Answer}
 use Rattle.model.specs.declared.Answer.the-variants.{Done, Refused}
-use Rattle.model.specs.Files.{placeOf, tableLines}
+use Rattle.model.specs.Files.{placeOf}
 use Rattle.model.specs.Refused.{sameLine, sameHeader, compared}
 use Rattle.model.proofs.Tests.{below-or-not}
 use Rattle.text.specs.Files.{fileOf}
+use Rattle.tables.specs.Records.{linesOf, linesHeld, held}
 use Rattle.erasing.specs.Comparing.{difference}
-use Rattle.tables.proofs.Records.{array-length, lineAt, Held, next-line, no-line}
+use Rattle.tables.proofs.HeldLines.{next-line, no-line}
 
--- The loop's invariant: the first i lines are the same, and what is left differs where the files differ first.
-pub record Comparing (a b : Table) (shorter i : ℕ) : Type 0 where
-  pub first : Held a
-  pub second : Held b
-  pub least : shorter ≡ min (a .count) (b .count)
-  pub most : i ≤ shorter
-  pub left : compared i (drop i (tableLines a)) (drop i (tableLines b)) Done ≡ difference (fileOf a) (fileOf b)
+module _ (circuit : List (List ℕ)) (size : ℕ) (erasure : List (List ℕ)) (count : ℕ) where
+  -- where the lines differ first, after headers that are the same
+  abbrev pub lineDifference : Answer
+  lineDifference = compared 0 (linesHeld circuit size) (linesHeld erasure count) Done
 
-module _ (a b : Table) (r : Bool) (tested : r ≡ sameHeader (a .header) (b .header)) where
-  pub header-differs : r ≡ false → Refused 12 1 ≡ difference (fileOf a) (fileOf b)
-  unfolding difference
-  header-differs e = rw (← tested, e)
+  -- The loop's invariant: the first i lines are the same, and what is left differs where the lines differ first.
+  pub record Comparing (shorter i : ℕ) : Type 0 where
+    pub long : length circuit ≡ 1792
+    pub few : size ≤ 1792
+    pub other-long : length erasure ≡ 1792
+    pub other-few : count ≤ 1792
+    pub least : shorter ≡ min size count
+    pub most : i ≤ shorter
+    pub left : compared i (drop i (linesHeld circuit size)) (drop i (linesHeld erasure count)) Done ≡ lineDifference
 
+  -- ---- the headers
+  module _ (header other : Header) (r : Bool) (tested : r ≡ sameHeader header other) where
+    pub header-differs : r ≡ false → Refused 12 1 ≡ difference (fileOf (held header circuit size)) (fileOf (held other erasure count))
+    unfolding difference
+    header-differs e = rw (← tested, e)
+
+    pub by-lines :
+        r ≡ true → (answer : Answer) → answer ≡ lineDifference →
+        answer ≡ difference (fileOf (held header circuit size)) (fileOf (held other erasure count))
+    unfolding difference
+    by-lines e answer is = rw (← tested, e) is
+
+  -- ---- the lines
   pub compare-start :
-      r ≡ true → a .count ≤ 1792 → length (a .lines) ≡ 1792 → b .count ≤ 1792 → length (b .lines) ≡ 1792 → (shorter : ℕ) →
-      shorter ≡ min (a .count) (b .count) → Comparing a b shorter 0
-  unfolding difference
-  compare-start e few all few′ all′ shorter least =
+      length circuit ≡ 1792 → size ≤ 1792 → length erasure ≡ 1792 → count ≤ 1792 → (shorter : ℕ) → shorter ≡ min size count → Comparing shorter 0
+  compare-start long few other-long other-few shorter least =
       record {
-        first = record { few = few; all = all };
-        second = record { few = few′; all = all′ };
+        long = long;
+        few = few;
+        other-long = other-long;
+        other-few = other-few;
         least = least;
         most = omega arith;
-        left = rw (← tested, e);
+        left = refl;
       }
 
-module _ (a b : Table) (shorter i : ℕ) (c : Comparing a b shorter i) where
-  module _
-      (inside : i < shorter) (x y : Line) (r : Bool) (tested : r ≡ sameLine x y) (x-is : x ≡ lineAt a i) (y-is : y ≡ lineAt b i) where
-    step : cond r (compared (i + 1) (drop (i + 1) (tableLines a)) (drop (i + 1) (tableLines b)) Done) (Refused 12 (placeOf i)) ≡ difference (fileOf a) (fileOf b)
-    step =
-        rw (next-line a (c .first) i (omega (arith, c .least)), next-line b (c .second) i (omega (arith, c .least)), ← add-one i, ← x-is, ← y-is, ← tested)
-        at (c .left)
+  module _ (shorter i : ℕ) (c : Comparing shorter i) where
+    module _ (inside : i < shorter) where
+      pub line-there : i < length circuit
+      line-there = omega (arith, c .least, c .long, c .few)
 
-    pub line-differs : r ≡ false → (answer : Answer) → answer ≡ Refused 12 (placeOf i) → answer ≡ difference (fileOf a) (fileOf b)
-    line-differs e answer is = is ∙ (rw e at step)
+      pub other-there : i < length erasure
+      other-there = omega (arith, c .least, c .other-long, c .other-few)
 
-    pub lines-agree : r ≡ true → Comparing a b shorter (i + 1)
-    lines-agree e =
-        record { first = c .first; second = c .second; least = c .least; most = omega arith; left = rw e at step }
+      module _
+          (x y : Line) (r : Bool) (tested : r ≡ sameLine x y) (x-is : x ≡ getD (linesOf circuit) i Free)
+          (y-is : y ≡ getD (linesOf erasure) i Free) where
+        step :
+            cond r (compared (i + 1) (drop (i + 1) (linesHeld circuit size)) (drop (i + 1) (linesHeld erasure count)) Done) (Refused 12 (placeOf i))
+            ≡ lineDifference
+        step =
+            rw (
+              next-line circuit size (c .long) (c .few) i (omega (arith, c .least)),
+              next-line erasure count (c .other-long) (c .other-few) i (omega (arith, c .least)),
+              ← add-one i,
+              ← x-is,
+              ← y-is,
+              ← tested,
+            )
+            at (c .left)
 
-  module _ (end : shorter ≤ i) where
-    pub all-agree : a .count ≡ b .count → Done ≡ difference (fileOf a) (fileOf b)
-    all-agree e =
-        rw (no-line a (c .first) i (omega (arith, c .least)), no-line b (c .second) i (omega (arith, c .least))) at (c .left)
+        pub line-differs : r ≡ false → (answer : Answer) → answer ≡ Refused 12 (placeOf i) → answer ≡ lineDifference
+        line-differs e answer is = is ∙ (rw e at step)
 
-    pub length-differs :
-        (a .count ≡ b .count → ⊥) → (answer : Answer) → answer ≡ Refused 12 (placeOf i) → answer ≡ difference (fileOf a) (fileOf b)
-    length-differs f answer is = is ∙ ⊎-elim shorter-circuit shorter-erasure (below-or-not (a .count) (b .count))
-      where
-        shorter-circuit : a .count < b .count → Refused 12 (placeOf i) ≡ difference (fileOf a) (fileOf b)
-        shorter-circuit l =
-            rw (no-line a (c .first) i (omega (arith, c .least)), next-line b (c .second) i (omega (arith, c .least, c .most))) at (c .left)
+        pub lines-agree : r ≡ true → Comparing shorter (i + 1)
+        lines-agree e =
+            record {
+              long = c .long;
+              few = c .few;
+              other-long = c .other-long;
+              other-few = c .other-few;
+              least = c .least;
+              most = omega arith;
+              left = rw e at step;
+            }
 
-        shorter-erasure : b .count ≤ a .count → Refused 12 (placeOf i) ≡ difference (fileOf a) (fileOf b)
-        shorter-erasure l =
-            let less : b .count < a .count = omega (arith, f) in
-            rw (next-line a (c .first) i (omega (arith, c .least, c .most)), no-line b (c .second) i (omega (arith, c .least))) at (c .left)
+    module _ (end : shorter ≤ i) where
+      pub all-agree : size ≡ count → Done ≡ lineDifference
+      all-agree e =
+          rw (no-line circuit size (c .long) (c .few) i (omega (arith, c .least)), no-line erasure count (c .other-long) (c .other-few) i (omega (arith, c .least)))
+          at (c .left)
 
-pub ruleset compare-laws = (needs, not-true, not-false, array-length, header-differs, compare-start, line-differs, lines-agree, all-agree, length-differs)
+      pub length-differs : (size ≡ count → ⊥) → (answer : Answer) → answer ≡ Refused 12 (placeOf i) → answer ≡ lineDifference
+      length-differs f answer is = is ∙ ⊎-elim shorter-circuit shorter-erasure (below-or-not size count)
+        where
+          shorter-circuit : size < count → Refused 12 (placeOf i) ≡ lineDifference
+          shorter-circuit l =
+              rw (
+                no-line circuit size (c .long) (c .few) i (omega (arith, c .least)),
+                next-line erasure count (c .other-long) (c .other-few) i (omega (arith, c .least, c .most)),
+              )
+              at (c .left)
+
+          shorter-erasure : count ≤ size → Refused 12 (placeOf i) ≡ lineDifference
+          shorter-erasure l =
+              let less : count < size = omega (arith, f) in
+              rw (
+                next-line circuit size (c .long) (c .few) i (omega (arith, c .least, c .most)),
+                no-line erasure count (c .other-long) (c .other-few) i (omega (arith, c .least)),
+              )
+              at (c .left)
+
+pub ruleset compare-laws = (needs, not-true, not-false, header-differs, by-lines, compare-start, line-there, other-there, line-differs, lines-agree, all-agree, length-differs)

@@ -1,4 +1,4 @@
--- The loop that fills the erasure's table: what holds whenever its test is reached, and what each way on from there keeps. Assumes nothing.
+-- The loop that fills the erasure's records: what holds whenever its test is reached, and what each way on from there keeps. Assumes nothing.
 use Prim.Native.Nat.{ℕ, suc, _+_, _≤_, _<_}
 use native.Mathlib.Numerals.{add-one}
 use native.Mathlib.Omega.{arith}
@@ -8,30 +8,30 @@ use borrow.Author.Needs.{needs}
 use lib.ListN.{length, getD, take, drop, set, replicate, length-set, length-replicate}
 use lib.Seq.{length-take-le, take-suc-set}
 use Rattle.model.specs.declared.Line.{Line}
-use Rattle.model.specs.declared.Table.{Table}
-use Rattle.model.specs.Files.{tableLines}
+use Rattle.model.specs.declared.Line.the-variants.{In, Const, Neg, Rot, Add, Mul, Out, Enc, Rs, Ms, Us, Free}
 use Rattle.model.specs.Services as Services
-use Rattle.model.specs.Services.{kept, madeFrom, fateOf, renumbered, eraseFrom, erase, eraseFile}
-use Rattle.text.specs.Files.{fileOf, RestFree}
+use Rattle.model.specs.Services.{kept, madeFrom, fateOf, renumbered, eraseFrom, erase}
 use Rattle.erasing.specs.declared.Fate.{Fate}
 use Rattle.erasing.specs.declared.Fate.the-variants.{Kept, MadeFrom}
 use Rattle.erasing.specs.Renumbering.{meaning}
-use Rattle.tables.proofs.Records.{array-length, lineAt, Held, next-line, no-line, stored, stored-lines, stored-free, none-stored, freeRecord}
+use Rattle.tables.specs.Records.{levelOf, lineOf, linesOf, linesHeld, freeRecords}
+use Rattle.tables.proofs.Records.{free-long}
+use Rattle.tables.proofs.HeldLines.{next-line, no-line, stored-lines}
 
 -- what is left of the erasure, after lines with these origins, of which so many are kept
 abbrev eraseRest : List ℕ → ℕ → List Line → List Line
 eraseRest origins count xs = eraseFrom (λ i x. fateOf x) origins count xs
 
--- The loop's invariant: the table holds what erasing keeps of the schedule's first i lines, and with what it keeps of the rest it is
+-- The loop's invariant: the records hold what erasing keeps of the schedule's first i lines, and with what it keeps of the rest that is
 -- the whole erasure.
-pub record Filling (s t : Table) (origins : List ℕ) (i : ℕ) : Type 0 where
-  pub held : Held s
-  pub header : t .header ≡ s .header
-  pub most : i ≤ s .count
-  pub fewer : t .count ≤ i
-  pub free : RestFree t
+pub record Filling (schedule : List (List ℕ)) (count : ℕ) (erasure : List (List ℕ)) (origins : List ℕ) (at i : ℕ) : Type 0 where
+  pub long : length schedule ≡ 1792
+  pub few : count ≤ 1792
+  pub most : i ≤ count
+  pub fewer : at ≤ i
+  pub room : length erasure ≡ 1792
   pub wide : length origins ≡ 1792
-  pub left : tableLines t ++ eraseRest (take i origins) (t .count) (drop i (tableLines s)) ≡ erase (tableLines s)
+  pub left : linesHeld erasure at ++ eraseRest (take i origins) at (drop i (linesHeld schedule count)) ≡ erase (linesHeld schedule count)
 
 -- one line more, by its fate
 module _ (origins : List ℕ) (count : ℕ) (x : Line) (xs : List Line) where
@@ -48,83 +48,113 @@ module _ (origins : List ℕ) (count : ℕ) (x : Line) (xs : List Line) where
   line-struck : (a : ℕ) → fateOf x ≡ madeFrom a → eraseRest origins count (x ∷ xs) ≡ eraseRest (origins ++ (getD origins a count ∷ [])) count xs
   line-struck a e = ap byFate e
 
-pub start : (s : Table) → s .count ≤ 1792 → length (s .lines) ≡ 1792 → Filling s (record { header = s .header; lines = replicate 1792 freeRecord; count = 0 }) (replicate 1792 0) 0
-start s few all =
+-- the records were free, and are as many as they were
+pub as-many : (before after : List (List ℕ)) → before ≡ freeRecords → length after ≡ 1792 → length after ≡ length before
+as-many before after free room = room ∙ sym (free-long before free)
+
+pub start :
+    (schedule : List (List ℕ)) (count : ℕ) (erasure : List (List ℕ)) → length schedule ≡ 1792 → count ≤ 1792 → erasure ≡ freeRecords →
+    Filling schedule count erasure (replicate 1792 0) 0 0
+start schedule count erasure long few free =
     record {
-      held = record { few = few; all = all };
-      header = refl;
+      long = long;
+      few = few;
       most = omega arith;
       fewer = omega arith;
-      free = none-stored (s .header);
+      room = free-long erasure free;
       wide = length-replicate {A = ℕ} 1792 0;
       left = refl;
     }
 
-module _ (s t : Table) (origins : List ℕ) (i : ℕ) (f : Filling s t origins i) where
-  -- every line is read
-  pub all-erased : s .count ≤ i → fileOf t ≡ eraseFile (fileOf s)
-  all-erased end =
-      let nothing : drop i (tableLines s) ≡ [] = no-line s (f .held) i end in
-      let whole : tableLines t ≡ erase (tableLines s) = sym (append-nil (tableLines t)) ∙ (rw nothing at (f .left)) in
-      λ j. record { header = f .header j; lines = whole j }
+module _
+    (schedule : List (List ℕ)) (count : ℕ) (erasure : List (List ℕ)) (origins : List ℕ) (at i : ℕ)
+    (f : Filling schedule count erasure origins at i) where
+  abbrev lines : List Line
+  lines = linesHeld schedule count
 
-  module _ (inside : i < s .count) where
+  -- every line is read
+  pub all-erased : count ≤ i → linesHeld erasure at ≡ erase lines
+  all-erased end = sym (append-nil (linesHeld erasure at)) ∙ (rw (no-line schedule count (f .long) (f .few) i end) at (f .left))
+
+  pub few-kept : at ≤ count
+  few-kept = omega (arith, f .fewer, f .most)
+
+  module _ (inside : i < count) where
+    pub line-there : i < length schedule
+    line-there = omega (arith, f .few, f .long)
+
     -- the origins so far are as many as the lines so far
     pub so-far : i ≡ length (take i origins)
-    so-far = sym (length-take-le i origins (omega (arith, f .wide, f .held .few)))
+    so-far = sym (length-take-le i origins (omega (arith, f .wide, f .few)))
 
     origins-before : (o : ℕ) → take (i + 1) (set origins i o) ≡ take i origins ++ (o ∷ [])
-    origins-before o = rw (add-one i, take-suc-set origins i o (omega (arith, f .wide, f .held .few)))
+    origins-before o = rw (add-one i, take-suc-set origins i o (omega (arith, f .wide, f .few)))
 
-    kept-room : t .count < 1792
-    kept-room = omega (arith, f .fewer, f .held .few)
+    module _ (x : Line) (x-is : x ≡ getD (linesOf schedule) i Free) (fate : Fate) (told : meaning fate ≡ fateOf x) where
+      next : linesHeld erasure at ++ eraseRest (take i origins) at (x ∷ drop (i + 1) lines) ≡ erase lines
+      next = rw (next-line schedule count (f .long) (f .few) i inside, ← x-is) at (f .left)
 
-    next : tableLines t ++ eraseRest (take i origins) (t .count) (lineAt s i ∷ drop (i + 1) (tableLines s)) ≡ erase (tableLines s)
-    next = rw (next-line s (f .held) i inside) at (f .left)
-
-    module _ (fate : Fate) (told : meaning fate ≡ fateOf (lineAt s i)) where
       -- a line that stays
       kept-step :
-          fate ≡ Kept → (y : Line) → y ≡ renumbered (take i origins) (t .count) (lineAt s i) →
-          Filling s (stored t y) (set origins i (t .count)) (i + 1)
-      kept-step e y is =
+          fate ≡ Kept → (y : Line) → y ≡ renumbered (take i origins) at x → (m : List ℕ) → lineOf m ≡ y →
+          Filling schedule count (set erasure at m) (set origins i at) (at + 1) (i + 1)
+      kept-step e y is m holds =
           record {
-            held = f .held;
-            header = f .header;
+            long = f .long;
+            few = f .few;
             most = omega arith;
             fewer = omega (arith, f .fewer);
-            free = stored-free t y (f .free);
-            wide = length-set origins i (t .count) ∙ f .wide;
+            room = length-set erasure at m ∙ f .room;
+            wide = length-set origins i at ∙ f .wide;
             left =
-                rw (stored-lines t y (f .free) kept-room, origins-before (t .count), add-one (t .count), append-assoc, is)
-                (rw (line-kept (take i origins) (t .count) (lineAt s i) (drop (i + 1) (tableLines s)) (sym told ∙ ap meaning e)) at next);
+                rw (stored-lines erasure at m (omega (arith, f .fewer, f .few, f .room)), origins-before at, add-one at, append-assoc, holds, is)
+                (rw (line-kept (take i origins) at x (drop (i + 1) lines) (sym told ∙ ap meaning e)) at next);
           }
 
       -- a line that is struck
       struck-step :
-          (a : ℕ) → fate ≡ MadeFrom a → (o : ℕ) → o ≡ getD (take i origins) a (t .count) → Filling s t (set origins i o) (i + 1)
+          (a : ℕ) → fate ≡ MadeFrom a → (o : ℕ) → o ≡ getD (take i origins) a at → Filling schedule count erasure (set origins i o) at (i + 1)
       struck-step a e o is =
           record {
-            held = f .held;
-            header = f .header;
+            long = f .long;
+            few = f .few;
             most = omega arith;
             fewer = omega (arith, f .fewer);
-            free = f .free;
+            room = f .room;
             wide = length-set origins i o ∙ f .wide;
             left =
                 rw (origins-before o, is)
-                (rw (line-struck (take i origins) (t .count) (lineAt s i) (drop (i + 1) (tableLines s)) a (sym told ∙ ap meaning e)) at next);
+                (rw (line-struck (take i origins) at x (drop (i + 1) lines) a (sym told ∙ ap meaning e)) at next);
           }
 
-      -- the two ways meet: the table and the origins as each leaves them
-      pub after-kept :
-          fate ≡ Kept → (y : Line) → y ≡ renumbered (take i origins) (t .count) (lineAt s i) → (t′ : Table) (origins′ : List ℕ) → t′ ≡ stored t y →
-          origins′ ≡ set origins i (t .count) → Filling s t′ origins′ (i + 1)
-      after-kept e y is t′ origins′ p q = rw (p, q) (kept-step e y is)
+      -- the two ways meet: the records, the origins and the count as each leaves them
+      module _ (erasure′ : List (List ℕ)) (origins′ : List ℕ) (at′ : ℕ) where
+        pub after-kept :
+            fate ≡ Kept → (y : Line) → y ≡ renumbered (take i origins) at x → (m : List ℕ) → lineOf m ≡ y → erasure′ ≡ set erasure at m →
+            origins′ ≡ set origins i at → at′ ≡ at + 1 → Filling schedule count erasure′ origins′ at′ (i + 1)
+        after-kept e y is m holds p q n = rw (p, q, n) (kept-step e y is m holds)
 
-      pub after-struck :
-          (a : ℕ) → fate ≡ MadeFrom a → (o : ℕ) → o ≡ getD (take i origins) a (t .count) → (t′ : Table) (origins′ : List ℕ) → t′ ≡ t →
-          origins′ ≡ set origins i o → Filling s t′ origins′ (i + 1)
-      after-struck a e o is t′ origins′ p q = rw (p, q) (struck-step a e o is)
+        pub after-struck :
+            (a : ℕ) → fate ≡ MadeFrom a → (o : ℕ) → o ≡ getD (take i origins) a at → erasure′ ≡ erasure → origins′ ≡ set origins i o → at′ ≡ at →
+            Filling schedule count erasure′ origins′ at′ (i + 1)
+        after-struck a e o is p q n = rw (p, q, n) (struck-step a e o is)
 
-pub ruleset filling-laws = (needs, array-length, start, all-erased, so-far)
+-- a line keeps its level where its operands are counted anew
+level-same : (f : List ℕ) (count : ℕ) (x : Line) → levelOf (renumbered f count x) ≡ levelOf x
+level-same f count In = refl
+level-same f count (Const k) = refl
+level-same f count (Neg a) = refl
+level-same f count (Rot a t) = refl
+level-same f count (Add a b) = refl
+level-same f count (Mul a b) = refl
+level-same f count (Out a) = refl
+level-same f count (Enc a s e) = refl
+level-same f count (Rs a c) = refl
+level-same f count (Ms a c) = refl
+level-same f count (Us a b) = refl
+level-same f count Free = refl
+
+pub level-kept : (origins : List ℕ) (count : ℕ) (x y : Line) → levelOf x ≤ 65535 → y ≡ renumbered origins count x → levelOf y ≤ 65535
+level-kept origins count x y few e = omega (arith, ap levelOf e, level-same origins count x)
+
+pub ruleset filling-laws = (needs, level-kept, as-many, start, all-erased, few-kept, line-there, so-far)

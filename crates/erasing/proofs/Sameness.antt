@@ -7,7 +7,7 @@ use borrow.Author.Needs.{needs}
 use borrow.Author.Tests.{eq-eqb, ne-eqb, eqb-true, eqb-false}
 use lib.Dec.{T, eqb}
 use lib.ListN.{getD}
-use mir.Syntax.{w32}
+use mir.Syntax.{w16}
 use mir.Val.{SFits, ofZ, toZ}
 use mir.ValLaws.{toZ-ofZ}
 use Rattle.model.specs.declared.Header.{Header}
@@ -93,21 +93,21 @@ module _ (x y : Line) (m n : Numbers) (p : m ≡ numbersOf x) (q : n ≡ numbers
   other-third = other-number (λ k. k .3)
 
   pub by-amount :
-      m .0 ≡ n .0 → m .1 ≡ n .1 → m .2 ≡ n .2 → m .3 ≡ n .3 → SFits w32 (m .4) → SFits w32 (n .4) →
-      eqb (ofZ w32 (m .4)) (ofZ w32 (n .4)) ≡ sameLine x y
+      m .0 ≡ n .0 → m .1 ≡ n .1 → m .2 ≡ n .2 → m .3 ≡ n .3 → SFits w16 (m .4) → SFits w16 (n .4) →
+      eqb (ofZ w16 (m .4)) (ofZ w16 (n .4)) ≡ sameLine x y
   by-amount e₀ e₁ e₂ e₃ s t = go (eqb a b) refl
     where
       a : ℕ
-      a = ofZ w32 (m .4)
+      a = ofZ w16 (m .4)
 
       b : ℕ
-      b = ofZ w32 (n .4)
+      b = ofZ w16 (n .4)
 
       go : (r : Bool) → eqb a b ≡ r → r ≡ sameLine x y
       go true e =
-          let e₄ : m .4 ≡ n .4 = sym (toZ-ofZ w32 (m .4) s) ∙ ap (toZ w32) (eqb-true a b e) ∙ toZ-ofZ w32 (n .4) t in
+          let e₄ : m .4 ≡ n .4 = sym (toZ-ofZ w16 (m .4) s) ∙ ap (toZ w16) (eqb-true a b e) ∙ toZ-ofZ w16 (n .4) t in
           lines-same x y (line-by-numbers (λ i. (e₀ i, e₁ i, e₂ i, e₃ i, e₄ i)))
-      go false e = other-number (λ k. ofZ w32 (k .4)) (eqb-false a b e)
+      go false e = other-number (λ k. ofZ w16 (k .4)) (eqb-false a b e)
 
 pub by-numbers :
     (x y : Line) (m n : Numbers) (r : Bool) → m ≡ numbersOf x → n ≡ numbersOf y →

@@ -2,22 +2,21 @@
 use model::Answer;
 use model::Header;
 use model::Line;
-use model::Record;
-use model::Table;
 ghost use mathlib.Core.Path.{_≡_};
 ghost use Prim.Native.Nat.{_≤_, min};
-ghost use lib.ListN.{getD};
+ghost use lib.ListN.{length, getD};
 ghost use Rattle.model.specs.Files.{placeOf};
-ghost use Rattle.model.specs.Services.{fateOf, renumbered, eraseFile};
+ghost use Rattle.model.specs.Services.{fateOf, renumbered, erase};
 ghost use Rattle.model.specs.Refused.{sameLine, sameHeader};
-ghost use Rattle.text.specs.Files.{fileOf, RestFree};
+ghost use Rattle.text.specs.Files.{fileOf};
+ghost use Rattle.tables.specs.Records.{linesHeld, freeRecords, held};
 ghost use Rattle.erasing.specs.Renumbering.{meaning, withOperands};
 ghost use Rattle.erasing.specs.Comparing.{numbersOf, difference};
 
 // A line stays, or is struck and was made from the line that it names.
 pub enum Fate {
     Kept,
-    MadeFrom(u32),
+    MadeFrom(u16),
 }
 
 // What becomes of a line.
@@ -45,7 +44,7 @@ fn fate_of(line: Line) -> Fate
 }
 
 // The line that names these values instead of its own.
-fn with_operands(line: Line, first: u32, second: u32) -> Line
+fn with_operands(line: Line, first: u16, second: u16) -> Line
     ensures { λ r. ⌜ r ≡ withOperands line first second ⌝ }
 {
     match line {
@@ -73,7 +72,7 @@ fn with_operands(line: Line, first: u32, second: u32) -> Line
 }
 
 // The kept line that a line so far is or was made from, and the count of kept lines where there is no such line.
-fn origin(origins: &[u32], of: u32, count: u32) -> u32
+fn origin(origins: &[u16], of: u16, count: u16) -> u16
     ensures { λ r. ⌜ r ≡ getD (now (origins .entry)) of count ⌝ }
 {
     let at = of as usize;
@@ -84,7 +83,7 @@ fn origin(origins: &[u32], of: u32, count: u32) -> u32
 }
 
 // A kept line, its operands counted anew.
-fn renumber(origins: &[u32], count: u32, line: Line) -> Line
+fn renumber(origins: &[u16], count: u16, line: Line) -> Line
     ensures { λ r. ⌜ r ≡ renumbered (now (origins .entry)) count line ⌝ }
 {
     let a = tables::first_operand(line);
@@ -94,32 +93,25 @@ fn renumber(origins: &[u32], count: u32, line: Line) -> Line
     with_operands(line, first, second)
 }
 
-// The table of the lines that erasing keeps, renumbered.
-pub fn erase_table(schedule: Table) -> Table
-    requires { ⌜ schedule .count ≤ 1792 ⌝ }
-    ensures { λ r. ⌜ fileOf r ≡ eraseFile (fileOf schedule) ⌝ }
-    ensures room { λ r. ⌜ RestFree r ⌝ }
-    ensures few { λ r. ⌜ r .count ≤ schedule .count ⌝ }
+// The lines that erasing keeps, renumbered, into records that are free, and how many they are.
+pub fn erase_table(schedule: &[[u16; 4]], count: usize, erasure: &mut [[u16; 4]]) -> usize
+    requires { ⌜ length (now schedule) ≡ 1792 ⌝ }
+    requires { ⌜ count ≤ 1792 ⌝ }
+    requires { ⌜ now erasure ≡ freeRecords ⌝ }
+    ensures { λ r. ⌜ linesHeld (now (erasure .exit)) r ≡ erase (linesHeld (now (schedule .entry)) count) ⌝ }
+    ensures few { λ r. ⌜ r ≤ count ⌝ }
 {
-    let header = schedule.header;
-    let count = schedule.count;
-    let mut table = Table {
-        header: header,
-        lines: [Record { line: Line::Free }; 1792],
-        count: 0,
-    };
-    let mut origins = [0u32; 1792];
+    let mut origins = [0u16; 1792];
+    let mut at: usize = 0;
     let mut i: usize = 0;
     while i < count {
-        let record = schedule.lines[i];
-        let line = record.line;
-        let at = table.count;
-        let kept = at as u32;
+        let line = tables::line_at(schedule, i);
+        let kept = at as u16;
         match fate_of(line) {
             Fate::Kept => {
                 let renumbered = renumber(&origins[..i], kept, line);
-                table.lines[at] = Record { line: renumbered };
-                table.count = at + 1;
+                erasure[at] = tables::record_of(renumbered);
+                at += 1;
                 origins[i] = kept;
             }
             Fate::MadeFrom(of) => {
@@ -128,12 +120,12 @@ pub fn erase_table(schedule: Table) -> Table
         }
         i += 1;
     }
-    table
+    at
 }
 
 // ---- comparing
 // A line as numbers: its word's, then three for its fields, then a rotation's amount; 0 where it has none.
-pub struct Numbers(pub u32, pub u32, pub u32, pub u32, pub i32);
+pub struct Numbers(pub u16, pub u16, pub u16, pub u32, pub i16);
 
 fn numbers_of(line: Line) -> Numbers
     ensures { λ r. ⌜ r ≡ numbersOf line ⌝ }
@@ -215,34 +207,37 @@ fn differs_at(i: usize) -> Answer
 }
 
 // Where two files differ first: 12 and the place, or Done.
-pub fn compare(circuit: Table, erasure: Table) -> Answer
-    requires { ⌜ circuit .count ≤ 1792 ⌝ }
-    requires { ⌜ erasure .count ≤ 1792 ⌝ }
-    ensures { λ r. ⌜ r ≡ difference (fileOf circuit) (fileOf erasure) ⌝ }
+pub fn compare<'a>(
+    header: Header,
+    circuit: &'a [[u16; 4]],
+    size: usize,
+    other: Header,
+    erasure: &'a [[u16; 4]],
+    count: usize,
+) -> Answer
+    requires { ⌜ length (now circuit) ≡ 1792 ⌝ }
+    requires { ⌜ size ≤ 1792 ⌝ }
+    requires { ⌜ length (now erasure) ≡ 1792 ⌝ }
+    requires { ⌜ count ≤ 1792 ⌝ }
+    ensures { λ r. ⌜ r ≡ difference (fileOf (held header (now (circuit .entry)) size)) (fileOf (held other (now (erasure .entry)) count)) ⌝ }
 {
-    let header = circuit.header;
-    let other_header = erasure.header;
-    if !same_header(header, other_header) {
+    if !same_header(header, other) {
         return Answer::Refused {
             number: 12,
             place: 1,
         };
     }
-    let count = circuit.count;
-    let other_count = erasure.count;
-    let shorter = smaller(count, other_count);
+    let shorter = smaller(size, count);
     let mut i: usize = 0;
     while i < shorter {
-        let record = circuit.lines[i];
-        let other_record = erasure.lines[i];
-        let line = record.line;
-        let other_line = other_record.line;
+        let line = tables::line_at(circuit, i);
+        let other_line = tables::line_at(erasure, i);
         if !same_line(line, other_line) {
             return differs_at(i);
         }
         i += 1;
     }
-    if count == other_count {
+    if size == count {
         return Answer::Done;
     }
     differs_at(i)

@@ -12,9 +12,8 @@ use Rattle.model.specs.declared.Grammar.the-variants.{Circuit}
 use Rattle.model.specs.declared.Header.{Header}
 use Rattle.model.specs.declared.Known.{Known}
 use Rattle.model.specs.declared.Line.{Line}
-use Rattle.model.specs.declared.Table.{Table}
 use Rattle.model.specs.Scales.{withTop}
-use Rattle.model.specs.Files.{placeOf, tableLines, TableFormed}
+use Rattle.model.specs.Files.{placeOf, Table, tableLines, TableFormed}
 use Rattle.model.specs.Machine.{Run, finished, stopped, run}
 use Rattle.model.specs.Plan.{bestMachine}
 use Rattle.model.specs.Services.{tryLevels, leastLevel}

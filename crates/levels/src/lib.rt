@@ -3,13 +3,13 @@ use model::Answer;
 use model::Best;
 use model::Header;
 use model::Known;
-use model::Table;
 use reserves::Placing;
 ghost use mathlib.Core.Path.{_≡_};
 ghost use Rattle.model.specs.declared.Grammar.the-variants.{Circuit};
 ghost use Rattle.model.specs.Scales.{withTop};
 ghost use Rattle.model.specs.Files.{TableFormed};
 ghost use Rattle.model.specs.Services.{leastLevel};
+ghost use Rattle.tables.specs.Records.{held};
 ghost use Rattle.text.specs.Files.{fileOf};
 
 // The header with another top level.
@@ -24,12 +24,10 @@ fn with_top(header: Header, level: u32) -> Header
 }
 
 // The first level from 1 to 60 at which every line has a best reserve, or the refusal at 60.
-pub fn least_level(circuit: Table) -> Answer
-    requires { ⌜ TableFormed Circuit circuit ⌝ }
-    ensures { λ r. ⌜ r ≡ leastLevel (fileOf circuit) ⌝ }
+pub fn least_level(given: Header, circuit: &[[u16; 4]], count: usize) -> Answer
+    requires { ⌜ TableFormed Circuit (held given (now circuit) count) ⌝ }
+    ensures { λ r. ⌜ r ≡ leastLevel (fileOf (held given (now (circuit .entry)) count)) ⌝ }
 {
-    let given = circuit.header;
-    let count = circuit.count;
     let mut known = [Known {
         best: Best::Constant,
     }; 256];
@@ -38,8 +36,7 @@ pub fn least_level(circuit: Table) -> Answer
         let header = with_top(given, level);
         let mut i: usize = 0;
         while i < count {
-            let record = circuit.lines[i];
-            let line = record.line;
+            let line = tables::line_at(circuit, i);
             let a = reserves::first_place(line, i);
             let b = reserves::second_place(line, i);
             match reserves::best_after(header, line, i, known[a], known[b]) {

@@ -131,8 +131,8 @@ module _ (s : Bytes) (e : ℕ) (q : e ≡ before tab s) where
         | no l ↦ ap (λ (ps : List Bytes). getD ps 0 []) (uncut (omega arith)) ∙ sym (take-all e s (omega arith))
       ]
 
-  pub begins : (w : Word) (r : Bool) → e ≤ length s → w ≡ wordNamed (take e s) → r ≡ isKeptWord w → r ≡ beginsKept s
-  begins w r h k p = rw (first-piece h, ← k) p
+  pub begins : (w : Word) → e ≤ length s → w ≡ wordNamed (take e s) → isKeptWord w ≡ beginsKept s
+  begins w h k = rw (first-piece h, ← k)
 
 module _ (g : Grammar) (place : ℕ) (r : Form) (s : Bytes) (e : ℕ) (q : e ≡ before tab s) where
   module _ (w : Word) (k : w ≡ wordNamed (take e s)) where

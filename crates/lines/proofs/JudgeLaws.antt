@@ -11,7 +11,7 @@ use lib.Dec.{T, leb, leb→le, lit≤}
 use lib.IntN.{ℤ, pos, negsuc, negℤ}
 use lib.Signed.{leZ}
 use lib.ListN.{length, getD}
-use mir.Syntax.{w32, w64}
+use mir.Syntax.{w16, w64}
 use mir.Val.{Fits, SFits, toZ, ofZ}
 use mir.ValLaws.{toZ-ofZ}
 use Rattle.model.specs.declared.Grammar.{Grammar}
@@ -19,8 +19,8 @@ use Rattle.model.specs.declared.Grammar.the-variants.{Circuit, Schedule}
 use Rattle.model.specs.declared.Header.{Header}
 use Rattle.model.specs.declared.Line.{Line}
 use Rattle.model.specs.declared.Kind.{Kind}
-use Rattle.model.specs.Scales.{within}
-use Rattle.model.proofs.Tests.{and-first, and-second, within-facts, level-most}
+use Rattle.model.specs.Scales.{within, headerInRange}
+use Rattle.model.proofs.Tests.{and-first, and-second, within-facts, header-facts, level-most}
 use Rattle.model.specs.Words.{levelsFrom, levelsTo}
 use Rattle.model.specs.Files.{inRange, operands, kindAt, isUsable, everyUsable, kindsFit}
 use Rattle.model.specs.declared.Word.{Word}
@@ -32,8 +32,8 @@ use Rattle.text.specs.Lines.{lineFor, shapeLine, judged}
 use Rattle.lines.specs.Kinds.{kindCoded, codes}
 use Rattle.lines.proofs.KindLaws.{coded-kind, coded-length, past}
 use Rattle.lines.specs.declared.judging.Operands.{Operands}
-use Rattle.lines.specs.declared.judging.Operands.the-variants.{Pair}
-use Rattle.lines.specs.Judging.{operandsOf, usableBy, kindsFitBy, Small, Tidy}
+use Rattle.lines.specs.declared.judging.Operands.the-variants.{NoOperand, Ciphertext, Constant, Pair}
+use Rattle.lines.specs.Judging.{operandsOf, usableBy, kindsFitBy, secondKind, Small, Tidy}
 
 -- ---- the word decides
 module _ (w v : Word) (e : w ≡ v) where
@@ -125,21 +125,38 @@ module _ (lines : List Line) (a b c : ℕ) (t : ℤ) where
   operands-fit g Us = refl
   operands-fit g NoWord = refl
 
+-- ---- a second kind is asked of two operands alone
+second-unasked : (o : Operands) (j k : Kind) → usableBy o j (secondKind o k) ≡ usableBy o j k
+second-unasked NoOperand j k = refl
+second-unasked Ciphertext j k = refl
+second-unasked Constant j k = refl
+second-unasked Pair j k = refl
+
+second-unfit : (g : Grammar) (o : Operands) (j k : Kind) → kindsFitBy g o j (secondKind o k) ≡ kindsFitBy g o j k
+second-unfit g NoOperand j k = refl
+second-unfit g Ciphertext j k = refl
+second-unfit g Constant j k = refl
+second-unfit g Pair j k = refl
+
+module _ (o v : Operands) (e : o ≡ v) (k : Kind) where
+  pub second-by : (r : Kind) → r ≡ secondKind v k → r ≡ secondKind o k
+  second-by r q = rw e q
+
 -- ---- ranges and operands show that the numbers fit
 abbrev shaped : Word → ℕ → ℕ → ℕ → ℤ → Shape
 shaped w a b c t = record { word = w; first = a; second = b; third = c; turn = t }
 
-turn-small : (t : ℤ) → T (leZ (negℤ (pos 32767)) t && leZ t (pos 32767)) → SFits w32 t
+turn-small : (t : ℤ) → T (leZ (negℤ (pos 32767)) t && leZ t (pos 32767)) → SFits w16 t
 turn-small (pos n) r = record { sfits = omega (arith, leb→le n 32767 r) }
 turn-small (negsuc n) r = record { sfits = omega (arith, leb→le n 32766 (and-first (leb n 32766) true r)) }
 
-no-turn : {t : ℤ} → t ≡ pos 0 → SFits w32 t
+no-turn : {t : ℤ} → t ≡ pos 0 → SFits w16 t
 no-turn e = rw e (record { sfits = omega arith })
 
 up-to : (low most n : ℕ) → T (within low most n) → n ≤ most
 up-to low most n r = within-facts low most n r .most
 
-module _ (g : Grammar) (h : Header) (top : Fits w32 (h .top)) (n : ℕ) (few : n ≤ 1792) (a b c : ℕ) (t : ℤ) (j k : Kind) (named : T (isUsable j) → a < n) (named′ : T (isUsable k) → b < n) where
+module _ (g : Grammar) (h : Header) (top : T (headerInRange h)) (n : ℕ) (few : n ≤ 1792) (a b c : ℕ) (t : ℤ) (j k : Kind) (named : T (isUsable j) → a < n) (named′ : T (isUsable k) → b < n) where
   small : (w : Word) → Tidy (shaped w a b c t) → T (inRange g h (lineFor w a b c t)) → T (usableBy (operandsOf w) j k) → Small (shaped w a b c t)
   small In d r u = record { first = record { fits = omega (arith, d .first refl) }; second = record { fits = omega (arith, d .second (lit≤ tt)) }; third = record { fits = omega (arith, d .third (lit≤ tt)) }; turn = no-turn (d .turn tt) }
   small Const d r u = record { first = record { fits = omega (arith, up-to 0 65535 a r) }; second = record { fits = omega (arith, d .second (lit≤ tt)) }; third = record { fits = omega (arith, d .third (lit≤ tt)) }; turn = no-turn (d .turn tt) }
@@ -148,7 +165,7 @@ module _ (g : Grammar) (h : Header) (top : Fits w32 (h .top)) (n : ℕ) (few : n
   small Add d r u = record { first = record { fits = omega (arith, named (and-first (isUsable j) (isUsable k) u)) }; second = record { fits = omega (arith, named′ (and-second (isUsable j) (isUsable k) u)) }; third = record { fits = omega (arith, d .third (lit≤ tt)) }; turn = no-turn (d .turn tt) }
   small Mul d r u = record { first = record { fits = omega (arith, named (and-first (isUsable j) (isUsable k) u)) }; second = record { fits = omega (arith, named′ (and-second (isUsable j) (isUsable k) u)) }; third = record { fits = omega (arith, d .third (lit≤ tt)) }; turn = no-turn (d .turn tt) }
   small Out d r u = record { first = record { fits = omega (arith, named u) }; second = record { fits = omega (arith, d .second (lit≤ tt)) }; third = record { fits = omega (arith, d .third (lit≤ tt)) }; turn = no-turn (d .turn tt) }
-  small Enc d r u = record { first = record { fits = omega (arith, named u) }; second = record { fits = omega (arith, up-to 1 3600 b (and-first (within 1 3600 b) (within (levelsFrom g) (levelsTo g h) c) r)) }; third = record { fits = omega (arith, level-most g h, up-to (levelsFrom g) (levelsTo g h) c (and-second (within 1 3600 b) (within (levelsFrom g) (levelsTo g h) c) r)) }; turn = no-turn (d .turn tt) }
+  small Enc d r u = record { first = record { fits = omega (arith, named u) }; second = record { fits = omega (arith, up-to 1 3600 b (and-first (within 1 3600 b) (within (levelsFrom g) (levelsTo g h) c) r)) }; third = record { fits = omega (arith, level-most g h, header-facts h top .top .most, up-to (levelsFrom g) (levelsTo g h) c (and-second (within 1 3600 b) (within (levelsFrom g) (levelsTo g h) c) r)) }; turn = no-turn (d .turn tt) }
   small Rs d r u = record { first = record { fits = omega (arith, named u) }; second = record { fits = omega (arith, up-to 1 60 b r) }; third = record { fits = omega (arith, d .third (lit≤ tt)) }; turn = no-turn (d .turn tt) }
   small Ms d r u = record { first = record { fits = omega (arith, named u) }; second = record { fits = omega (arith, up-to 1 60 b r) }; third = record { fits = omega (arith, d .third (lit≤ tt)) }; turn = no-turn (d .turn tt) }
   small Us d r u = record { first = record { fits = omega (arith, named u) }; second = record { fits = omega (arith, up-to 1 3600 b r) }; third = record { fits = omega (arith, d .third (lit≤ tt)) }; turn = no-turn (d .turn tt) }
@@ -163,24 +180,33 @@ module _ (c : Context) (h : Header) (s : Shape) (kinds : List ℕ) (t : Bool) (q
   pub out-of-range : t ≡ false → (lines : List Line) → codes lines ≡ kinds → Bad 11 (length kinds + 2) ≡ judged c h lines (shapeLine s)
   out-of-range o lines e = rw (← q, o, coded-length lines kinds e)
 
-  module _ (o : t ≡ true) (j k : Kind) (p : j ≡ kindCoded (getD kinds (s .first) 0)) (p′ : k ≡ kindCoded (getD kinds (s .second) 0)) (w : Operands) (i : w ≡ operandsOf (s .word)) (u : Bool) (q′ : u ≡ usableBy w j k) where
+  module _ (o : t ≡ true) (j k : Kind) (p : j ≡ kindCoded (getD kinds (s .first) 0)) (w : Operands) (i : w ≡ operandsOf (s .word)) (p′ : k ≡ secondKind w (kindCoded (getD kinds (s .second) 0))) (u : Bool) (q′ : u ≡ usableBy w j k) where
+    abbrev second-there : Kind
+    second-there = kindCoded (getD kinds (s .second) 0)
+
+    usable-by-word : u ≡ usableBy (operandsOf (s .word)) j second-there
+    usable-by-word = q′ ∙ ap (usableBy w j) p′ ∙ second-unasked w j second-there ∙ ap (λ (v : Operands). usableBy v j second-there) i
+
     usable-at : (lines : List Line) → codes lines ≡ kinds → u ≡ everyUsable lines (operands (shapeLine s))
     usable-at lines e =
-        q′ ∙ ap (λ (v : Operands). usableBy v j k) i ∙ ap₂ (usableBy (operandsOf (s .word))) (p ∙ coded-kind lines kinds (s .first) e) (p′ ∙ coded-kind lines kinds (s .second) e)
+        usable-by-word ∙ ap₂ (usableBy (operandsOf (s .word))) (p ∙ coded-kind lines kinds (s .first) e) (coded-kind lines kinds (s .second) e)
         ∙ sym (operands-usable lines (s .first) (s .second) (s .third) (s .turn) (s .word))
 
     pub not-usable : u ≡ false → (lines : List Line) → codes lines ≡ kinds → Bad 4 (length kinds + 2) ≡ judged c h lines (shapeLine s)
     not-usable o′ lines e = rw (← q, o, ← usable-at lines e, o′, coded-length lines kinds e)
 
     module _ (o′ : u ≡ true) where
-      pub numbers-small : Tidy s → length kinds ≤ 1792 → Fits w32 (h .top) → Small s
-      numbers-small d few top = small (c .grammar) h top (length kinds) few (s .first) (s .second) (s .third) (s .turn) j k
-          (λ x. named kinds (s .first) (rw p at x)) (λ x. named kinds (s .second) (rw p′ at x)) (s .word) d (rw (← q, o) tt) (rw (← i, ← q′, o′) tt)
+      pub numbers-small : Tidy s → length kinds ≤ 1792 → T (headerInRange h) → Small s
+      numbers-small d few top =
+          small (c .grammar) h top (length kinds) few (s .first) (s .second) (s .third) (s .turn) j second-there
+          (λ x. named kinds (s .first) (rw p at x)) (λ x. named kinds (s .second) x) (s .word) d (rw (← q, o) tt) (rw (← usable-by-word, o′) tt)
 
       module _ (v : Bool) (q″ : v ≡ kindsFitBy (c .grammar) w j k) where
         fit-at : (lines : List Line) → codes lines ≡ kinds → v ≡ kindsFit (c .grammar) lines (shapeLine s)
         fit-at lines e =
-            q″ ∙ ap (λ (v : Operands). kindsFitBy (c .grammar) v j k) i ∙ ap₂ (kindsFitBy (c .grammar) (operandsOf (s .word))) (p ∙ coded-kind lines kinds (s .first) e) (p′ ∙ coded-kind lines kinds (s .second) e)
+            q″ ∙ ap (kindsFitBy (c .grammar) w j) p′ ∙ second-unfit (c .grammar) w j second-there
+            ∙ ap (λ (v : Operands). kindsFitBy (c .grammar) v j second-there) i
+            ∙ ap₂ (kindsFitBy (c .grammar) (operandsOf (s .word))) (p ∙ coded-kind lines kinds (s .first) e) (coded-kind lines kinds (s .second) e)
             ∙ sym (operands-fit lines (s .first) (s .second) (s .third) (s .turn) (c .grammar) (s .word))
 
         pub not-fit : v ≡ false → (lines : List Line) → codes lines ≡ kinds → Bad 5 (length kinds + 2) ≡ judged c h lines (shapeLine s)
@@ -190,13 +216,13 @@ module _ (c : Context) (h : Header) (s : Shape) (kinds : List ℕ) (t : Bool) (q
         fits o″ x f lines e = rw (← q, o, ← usable-at lines e, o′, ← fit-at lines e, o″, f)
 
 -- the rotation amount of a line, as the machine holds it
-wider : (t : ℤ) → SFits w32 t → SFits w64 t
+wider : (t : ℤ) → SFits w16 t → SFits w64 t
 wider (pos n) f = record { sfits = omega arith }
 wider (negsuc n) f = record { sfits = omega arith }
 
-pub small-line : (s : Shape) (x : Line) → Small s → x ≡ lineFor (s .word) (s .first) (s .second) (s .third) (toZ w32 (ofZ w32 (toZ w64 (ofZ w64 (s .turn))))) → x ≡ shapeLine s
-small-line s x m e = rw (toZ-ofZ w64 (s .turn) (wider (s .turn) (m .turn)), toZ-ofZ w32 (s .turn) (m .turn)) at e
+pub small-line : (s : Shape) (x : Line) → Small s → x ≡ lineFor (s .word) (s .first) (s .second) (s .third) (toZ w16 (ofZ w16 (toZ w64 (ofZ w64 (s .turn))))) → x ≡ shapeLine s
+small-line s x m e = rw (toZ-ofZ w64 (s .turn) (wider (s .turn) (m .turn)), toZ-ofZ w16 (s .turn) (m .turn)) at e
 
-pub ruleset judge-laws = (needs, small-line, not-true, not-false, range-by, constant-range, turn-range, circuit-level, schedule-level, level-range, scale-range, line-by, usable-by, fit-by, second-usable, first-unusable)
+pub ruleset judge-laws = (needs, small-line, not-true, not-false, range-by, constant-range, turn-range, circuit-level, schedule-level, level-range, scale-range, line-by, usable-by, fit-by, second-by, second-usable, first-unusable)
 
 pub ruleset verdicts = (needs, not-true, not-false, out-of-range, not-usable, not-fit, fits, numbers-small)

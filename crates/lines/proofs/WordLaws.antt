@@ -1,32 +1,108 @@
 -- Words: which one a field is, test by test. Assumes nothing.
 use Prim.Native.Nat.{ℕ}
-use mathlib.Core.Path.{_≡_, refl, sym, ap, _∙_}
+use native.Mathlib.Omega.{arith}
+use mathlib.Core.Path.{_≡_, refl, sym, ap, subst, _∙_}
+use mathlib.Core.List.{[], _∷_}
 use mathlib.Core.Bool.{Bool, true, false, _&&_}
 use borrow.Author.Needs.{needs}
+use borrow.Author.Tests.{ne-eqb}
 use lib.Dec.{T, eqb, ltb}
+use lib.ListN.{length, getD}
 use Rattle.fields.specs.Pieces.{Bytes, sameBytes}
-use Rattle.fields.proofs.PieceLaws.{same-bytes}
+use Rattle.fields.proofs.PieceLaws.{bytes-same, same-bytes}
 use Rattle.model.specs.declared.Grammar.{Grammar}
 use Rattle.model.specs.declared.Grammar.the-variants.{Schedule}
 use Rattle.model.specs.declared.Word.{Word}
 use Rattle.model.specs.declared.Word.the-variants.{In, Const, Neg, Rot, Add, Mul, Out, Enc, Rs, Ms, Us, NoWord}
+use Rattle.model.proofs.Tests.{and-first, and-second, and-both}
 use Rattle.text.specs.Words.{wordText, arity, takesAmount, isKeptWord, isAnyWord, isWordOf, wordNamed}
-use Rattle.text.proofs.WordLaws.{named-word}
-use Rattle.lines.specs.Words.{order}
+use Rattle.text.proofs.WordLaws.{word-is, named-word}
+use Rattle.lines.specs.Words.{order, firstByte, candidateBy, candidateOf, isNamed}
 
--- a field with a word's bytes is that word
-pub is-word : (w : Word) (f : Bytes) (t : Bool) → T (isAnyWord w) → t ≡ sameBytes f (wordText w) → t ≡ true → w ≡ wordNamed f
-is-word w f t any q h = sym (ap wordNamed (same-bytes f (wordText w) (rw (← q, h) tt)) ∙ named-word w any)
+-- ---- the only word that a field can be, by its first byte and length
+pub no-byte : (f : Bytes) → length f ≡ 0 → NoWord ≡ candidateOf f
+unfolding candidateOf
+no-byte [] h = refl
+no-byte (b ∷ bs) h = absurd (omega arith)
 
--- a field with no word's bytes
-pub no-word : (f : Bytes) (a b c d e f′ g h i j k : Bool) → a ≡ sameBytes f (wordText In) → a ≡ false → b ≡ sameBytes f (wordText Const) → b ≡ false
-    → c ≡ sameBytes f (wordText Neg) → c ≡ false → d ≡ sameBytes f (wordText Rot) → d ≡ false → e ≡ sameBytes f (wordText Add) → e ≡ false
-    → f′ ≡ sameBytes f (wordText Mul) → f′ ≡ false → g ≡ sameBytes f (wordText Out) → g ≡ false → h ≡ sameBytes f (wordText Enc) → h ≡ false
-    → i ≡ sameBytes f (wordText Rs) → i ≡ false → j ≡ sameBytes f (wordText Ms) → j ≡ false → k ≡ sameBytes f (wordText Us) → k ≡ false
-    → NoWord ≡ wordNamed f
-unfolding wordNamed
-no-word f a b c d e f′ g h i j k qa pa qb pb qc pc qd pd qe pe qf pf qg pg qh ph qi pi qj pj qk pk =
-    rw (← qa, pa, ← qb, pb, ← qc, pc, ← qd, pd, ← qe, pe, ← qf, pf, ← qg, pg, ← qh, ph, ← qi, pi, ← qj, pj, ← qk, pk)
+pub by-first : (f : Bytes) (first : ℕ) (r : Word) → getD f 0 0 ≡ first → r ≡ candidateBy first (eqb (length f) 2) → r ≡ candidateOf f
+unfolding candidateOf
+by-first f first r e q = q ∙ rw e
+
+pub by-length :
+    (f : Bytes) (first : ℕ) (short : Bool) (r : Word) → getD f 0 0 ≡ first → eqb (length f) 2 ≡ short → r ≡ candidateBy first short →
+    r ≡ candidateOf f
+unfolding candidateOf
+by-length f first short r e h q = q ∙ rw (e, h)
+
+pub no-first :
+    (f : Bytes) → (getD f 0 0 ≡ firstByte In → ⊥) → (getD f 0 0 ≡ firstByte Const → ⊥) → (getD f 0 0 ≡ firstByte Neg → ⊥) →
+    (getD f 0 0 ≡ firstByte Rot → ⊥) → (getD f 0 0 ≡ firstByte Add → ⊥) → (getD f 0 0 ≡ firstByte Mul → ⊥) → (getD f 0 0 ≡ firstByte Out → ⊥) →
+    (getD f 0 0 ≡ firstByte Enc → ⊥) → (getD f 0 0 ≡ firstByte Us → ⊥) → NoWord ≡ candidateOf f
+unfolding candidateOf
+no-first f i c n r a m o e u =
+    simp (other In i, other Const c, other Neg n, other Rot r, other Add a, other Mul m, other Out o, other Enc e, other Us u)
+  where
+    other : (w : Word) → (getD f 0 0 ≡ firstByte w → ⊥) → eqb (getD f 0 0) (firstByte w) ≡ false
+    other w n = ne-eqb (getD f 0 0) (firstByte w) n
+
+pub ruleset candidate-laws = (needs, no-byte, by-first, by-length, no-first)
+
+-- a word's text leads to the word
+candidate-text : (w : Word) → candidateOf (wordText w) ≡ w
+unfolding candidateOf
+candidate-text In = refl
+candidate-text Const = refl
+candidate-text Neg = refl
+candidate-text Rot = refl
+candidate-text Add = refl
+candidate-text Mul = refl
+candidate-text Out = refl
+candidate-text Enc = refl
+candidate-text Rs = refl
+candidate-text Ms = refl
+candidate-text Us = refl
+candidate-text NoWord = refl
+
+-- ---- whether a field is a word's text
+pub is-text : (v w : Word) (f : Bytes) (t : Bool) → v ≡ w → t ≡ (isAnyWord w && sameBytes f (wordText w)) → t ≡ isNamed v f
+unfolding isNamed
+is-text v w f t e q = q ∙ rw e
+
+pub ruleset text-laws = (needs, is-text)
+
+no-other : (w : Word) → (T (isAnyWord w) → ⊥) → NoWord ≡ w
+no-other In n = absurd (n tt)
+no-other Const n = absurd (n tt)
+no-other Neg n = absurd (n tt)
+no-other Rot n = absurd (n tt)
+no-other Add n = absurd (n tt)
+no-other Mul n = absurd (n tt)
+no-other Out n = absurd (n tt)
+no-other Enc n = absurd (n tt)
+no-other Rs n = absurd (n tt)
+no-other Ms n = absurd (n tt)
+no-other Us n = absurd (n tt)
+no-other NoWord n = refl
+
+module _ (w : Word) (f : Bytes) (t : Bool) (q : t ≡ isNamed w f) where
+  pub is-word : t ≡ true → w ≡ wordNamed f
+  unfolding isNamed
+  is-word h =
+      let both : T (isAnyWord w && sameBytes f (wordText w)) = rw (← q, h) tt in
+      let text = same-bytes f (wordText w) (and-second (isAnyWord w) (sameBytes f (wordText w)) both) in
+      sym (ap wordNamed text ∙ named-word w (and-first (isAnyWord w) (sameBytes f (wordText w)) both))
+
+  -- a field that is a word's text has that word for its candidate
+  pub no-word : w ≡ candidateOf f → t ≡ false → NoWord ≡ wordNamed f
+  unfolding isNamed
+  no-word e h = no-other (wordNamed f) (λ any. subst T (sym q ∙ h) (named any))
+    where
+      named : T (isAnyWord (wordNamed f)) → T (isAnyWord w && sameBytes f (wordText w))
+      named any =
+          let text : wordText (wordNamed f) ≡ f = word-is f any in
+          let same : w ≡ wordNamed f = e ∙ ap candidateOf (sym text) ∙ candidate-text (wordNamed f) in
+          rw (same, text) (and-both (isAnyWord (wordNamed f)) (sameBytes f f) any (bytes-same f))
 
 -- ---- by a word's place in the order
 kept-order : (w : Word) → ltb (order w) 7 ≡ isKeptWord w
@@ -88,4 +164,4 @@ module _ (g : Grammar) (w : Word) (n : ℕ) (t : Bool) (q : t ≡ isWordOf g w) 
   pub takes-no : t ≡ false → false ≡ (isWordOf g w && eqb (arity w) n)
   takes-no h = rw (← q, h)
 
-pub ruleset word-laws = (needs, is-word, kept-by, schedule-by, rot-by, takes-yes, takes-no)
+pub ruleset word-laws = (needs, is-word, no-word, kept-by, schedule-by, rot-by, takes-yes, takes-no)

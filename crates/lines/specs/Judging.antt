@@ -4,10 +4,11 @@ use mathlib.Core.Bool.{Bool, true, not, _&&_}
 use mathlib.Core.Path.{_≡_}
 use lib.Dec.{T}
 use lib.IntN.{pos}
-use mir.Syntax.{w32}
+use mir.Syntax.{w16}
 use mir.Val.{Fits, SFits}
 use Rattle.model.specs.declared.Grammar.{Grammar}
 use Rattle.model.specs.declared.Kind.{Kind}
+use Rattle.model.specs.declared.Kind.the-variants.{Nothing}
 use Rattle.model.specs.Files.{isCiphertext, isConstant, isUsable, isPair}
 use Rattle.model.specs.declared.Word.{Word}
 use Rattle.model.specs.declared.Word.the-variants.{In, Const, Neg, Rot, Add, Mul, Out, Enc, Rs, Ms, Us, NoWord}
@@ -43,12 +44,19 @@ kindsFitBy g Ciphertext j k = isCiphertext j
 kindsFitBy g Constant j k = isConstant j
 kindsFitBy g Pair j k = isPair g j k
 
+-- the second operand's kind, which is asked of two operands alone
+abbrev pub secondKind : Operands → Kind → Kind
+secondKind NoOperand k = Nothing
+secondKind Ciphertext k = Nothing
+secondKind Constant k = Nothing
+secondKind Pair k = k
+
 -- the numbers fit a line's fields
 pub record Small (s : Shape) : Type 0 where
-  pub first : Fits w32 (s .first)
-  pub second : Fits w32 (s .second)
-  pub third : Fits w32 (s .third)
-  pub turn : SFits w32 (s .turn)
+  pub first : Fits w16 (s .first)
+  pub second : Fits w16 (s .second)
+  pub third : Fits w16 (s .third)
+  pub turn : SFits w16 (s .turn)
 
 -- a number for which the word has no field is 0
 pub record Tidy (s : Shape) : Type 0 where

@@ -8,15 +8,19 @@ use text::Form;
 use text::Shape;
 ghost use mathlib.Core.Path.{_≡_};
 ghost use mathlib.Core.List.{[], _∷_};
-ghost use Rattle.fields.specs.Pieces.{tab, split};
+ghost use Prim.Native.Nat.{_≤_};
+ghost use lib.ListN.{length, take};
+ghost use Rattle.fields.specs.Pieces.{tab, before, split};
+ghost use Rattle.text.specs.Words.{wordNamed};
 ghost use Rattle.text.specs.Lines.{shapeOf, formOf, second};
 
-// The whole line: its word, then the fields after the first tab.
-pub fn form(grammar: Grammar, place: u32, bytes: &[u8]) -> Form
+// The whole line: its word, which has so many bytes, then the fields after the first tab.
+pub fn form(grammar: Grammar, place: u32, bytes: &[u8], word: Word, end: usize) -> Form
+    requires { ⌜ end ≡ before tab (now bytes) ⌝ }
+    requires { ⌜ end ≤ length (now bytes) ⌝ }
+    requires { ⌜ word ≡ wordNamed (take end (now bytes)) ⌝ }
     ensures { λ r. ⌜ r ≡ formOf grammar place (split tab (now (bytes .entry))) ⌝ }
 {
-    let end = fields::find(bytes, 9);
-    let word = words::word_of(&bytes[..end]);
     if end == bytes.len() {
         return no_field(grammar, place, word);
     }

@@ -11,16 +11,17 @@ use text::Shape;
 ghost use mathlib.Core.Path.{_≡_};
 ghost use mathlib.Core.List.{List};
 ghost use Prim.Native.Nat.{_≤_};
-ghost use lib.ListN.{length};
+ghost use lib.ListN.{length, getD};
+ghost use lib.Dec.{T};
 ghost use lib.IntN.{pos, negℤ};
 ghost use lib.Signed.{leZ};
 ghost use mathlib.Core.Bool.{_&&_};
-ghost use Rattle.model.specs.Scales.{within};
+ghost use Rattle.model.specs.Scales.{within, headerInRange};
 ghost use Rattle.model.specs.Words.{levelsFrom, levelsTo};
 ghost use Rattle.model.specs.Files.{inRange};
 ghost use Rattle.text.specs.Lines.{lineFor, shapeLine, judged};
-ghost use Rattle.lines.specs.Kinds.{codes};
-ghost use Rattle.lines.specs.Judging.{operandsOf, usableBy, kindsFitBy, Tidy, Small};
+ghost use Rattle.lines.specs.Kinds.{kindCoded, codes};
+ghost use Rattle.lines.specs.Judging.{operandsOf, usableBy, kindsFitBy, secondKind, Tidy, Small};
 
 // From 1 to most.
 pub fn up_to(most: u64, n: u64) -> bool
@@ -132,7 +133,19 @@ fn kinds_fit(grammar: Grammar, operands: Operands, first: Kind, second: Kind) ->
     }
 }
 
-fn line_for(word: Word, a: u32, b: u32, c: u32, turn: i32) -> Line
+// The kind of the second operand, where the word has two.
+fn second_kind(operands: Operands, before: &[u8], b: u64) -> Kind
+    ensures { λ r. ⌜ r ≡ secondKind operands (kindCoded (getD (now (before .entry)) b 0)) ⌝ }
+{
+    match operands {
+        Operands::NoOperand => Kind::Nothing,
+        Operands::Ciphertext => Kind::Nothing,
+        Operands::Constant => Kind::Nothing,
+        Operands::Pair => kinds::kind_at(before, b),
+    }
+}
+
+fn line_for(word: Word, a: u16, b: u16, c: u16, turn: i16) -> Line
     ensures { λ r. ⌜ r ≡ lineFor word a b c turn ⌝ }
 {
     match word {
@@ -146,7 +159,7 @@ fn line_for(word: Word, a: u32, b: u32, c: u32, turn: i32) -> Line
         Word::Enc => Line::Enc {
             of: a,
             scale: b,
-            level: c,
+            level: c as u32,
         },
         Word::Rs => Line::Rs(a, b),
         Word::Ms => Line::Ms(a, b),
@@ -162,15 +175,16 @@ fn line_of(shape: Shape) -> Line
     let word = shape.word;
     line_for(
         word,
-        shape.first as u32,
-        shape.second as u32,
-        shape.third as u32,
-        shape.turn as i32,
+        shape.first as u16,
+        shape.second as u16,
+        shape.third as u16,
+        shape.turn as i16,
     )
 }
 
 // A form after lines of these kinds. Its numbers are made smaller only when ranges and operands show that they fit.
 pub fn judge(context: Context, header: Header, before: &[u8], shape: Shape) -> LineRead
+    requires { ⌜ T (headerInRange header) ⌝ }
     requires { ⌜ length (now before) ≤ 1792 ⌝ }
     requires tidy { ⌜ Tidy shape ⌝ }
     ensures { λ r. ⌜ ((lines : List Line) → codes lines ≡ now (before .entry) → r ≡ judged context header lines (shapeLine shape)) ⌝ }
@@ -183,7 +197,7 @@ pub fn judge(context: Context, header: Header, before: &[u8], shape: Shape) -> L
     let word = shape.word;
     let operands = operands_of(word);
     let first = kinds::kind_at(before, shape.first);
-    let second = kinds::kind_at(before, shape.second);
+    let second = second_kind(operands, before, shape.second);
     if !usable(operands, first, second) {
         return LineRead::Bad { number: 4, place };
     }

@@ -5,43 +5,56 @@ ghost use mathlib.Core.Path.{_≡_};
 ghost use mathlib.Core.Bool.{_&&_};
 ghost use lib.Dec.{eqb};
 ghost use Rattle.text.specs.Words.{arity, takesAmount, isKeptWord, isWordOf, wordNamed};
-ghost use Rattle.lines.specs.Words.{order};
+ghost use Rattle.lines.specs.Words.{order, candidateOf, isNamed};
+
+// The only word that a field with this first byte and length can be: one comparison of bytes is left.
+fn candidate(f: &[u8]) -> Word
+    ensures { λ r. ⌜ r ≡ candidateOf (now (f .entry)) ⌝ }
+{
+    if f.len() == 0 {
+        return Word::NoWord;
+    }
+    let short = f.len() == 2;
+    match f[0] {
+        b'i' => Word::In,
+        b'c' => Word::Const,
+        b'n' => Word::Neg,
+        b'r' => if short { Word::Rs } else { Word::Rot },
+        b'a' => Word::Add,
+        b'm' => if short { Word::Ms } else { Word::Mul },
+        b'o' => Word::Out,
+        b'e' => Word::Enc,
+        b'u' => Word::Us,
+        _ => Word::NoWord,
+    }
+}
+
+// Whether the field is the text of this word.
+fn is_named(word: Word, f: &[u8]) -> bool
+    ensures { λ r. ⌜ r ≡ isNamed word (now (f .entry)) ⌝ }
+{
+    match word {
+        Word::In => fields::same(f, b"in"),
+        Word::Const => fields::same(f, b"const"),
+        Word::Neg => fields::same(f, b"neg"),
+        Word::Rot => fields::same(f, b"rot"),
+        Word::Add => fields::same(f, b"add"),
+        Word::Mul => fields::same(f, b"mul"),
+        Word::Out => fields::same(f, b"out"),
+        Word::Enc => fields::same(f, b"enc"),
+        Word::Rs => fields::same(f, b"rs"),
+        Word::Ms => fields::same(f, b"ms"),
+        Word::Us => fields::same(f, b"us"),
+        Word::NoWord => false,
+    }
+}
 
 pub fn word_of(f: &[u8]) -> Word
     ensures { λ r. ⌜ r ≡ wordNamed (now (f .entry)) ⌝ }
 {
-    if fields::same(f, b"in") {
-        return Word::In;
-    }
-    if fields::same(f, b"const") {
-        return Word::Const;
-    }
-    if fields::same(f, b"neg") {
-        return Word::Neg;
-    }
-    if fields::same(f, b"rot") {
-        return Word::Rot;
-    }
-    if fields::same(f, b"add") {
-        return Word::Add;
-    }
-    if fields::same(f, b"mul") {
-        return Word::Mul;
-    }
-    if fields::same(f, b"out") {
-        return Word::Out;
-    }
-    if fields::same(f, b"enc") {
-        return Word::Enc;
-    }
-    if fields::same(f, b"rs") {
-        return Word::Rs;
-    }
-    if fields::same(f, b"ms") {
-        return Word::Ms;
-    }
-    if fields::same(f, b"us") {
-        return Word::Us;
+    let word = candidate(f);
+    if is_named(word, f) {
+        return word;
     }
     Word::NoWord
 }

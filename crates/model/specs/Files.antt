@@ -9,8 +9,6 @@ use lib.ListN.{length, getD, take}
 use Rattle.model.specs.declared.Header.{Header}
 use Rattle.model.specs.declared.Line.{Line}
 use Rattle.model.specs.declared.Line.the-variants.{In, Const, Neg, Rot, Add, Mul, Out, Enc, Rs, Ms, Us, Free}
-use Rattle.model.specs.declared.Record.{Record}
-use Rattle.model.specs.declared.Table.{Table}
 use Rattle.model.specs.declared.Grammar.{Grammar}
 use Rattle.model.specs.declared.Grammar.the-variants.{Circuit, Schedule}
 use Rattle.model.specs.declared.Kind.{Kind}
@@ -166,13 +164,18 @@ pub record File : Type 0 where
   pub header : Header
   pub lines : List Line
 
--- The lines of a table are the first `count` of its records.
+-- "a table of 1,792 line records": a file that was read, with its lines in the first `count` records. A record that is free holds the line Free.
+pub record Table : Type 0 where
+  pub header : Header
+  pub lines : List Line
+  pub count : ℕ
+
 abbrev pub tableLines : Table → List Line
-tableLines t = map (λ (r : Record). r .line) (take (t .count) (t .lines))
+tableLines t = take (t .count) (t .lines)
 
 -- A table that holds a file of the grammar: no more lines than allowed, all else free.
 pub record TableFormed (g : Grammar) (t : Table) : Type 0 where
   pub few : T (leb (t .count) (limit g))
   pub room : length (t .lines) ≡ 1792
   pub lines : T (wellFormed g (t .header) (tableLines t))
-  pub rest : (i : ℕ) → T (leb (t .count) i) → getD (t .lines) i (record { line = Free }) .line ≡ Free
+  pub rest : (i : ℕ) → T (leb (t .count) i) → getD (t .lines) i Free ≡ Free

@@ -23,32 +23,21 @@ pub enum Word {
     NoWord,
 }
 
-// A line by its word; operands are value numbers. Free is no line: a record that holds none.
+// A line by its word; operands are value numbers. No number of a line that is read is above 65,535; the level is wider, since with eight bytes
+// a line would be moved as one number, which is slower. Free is no line: a record that holds none.
 pub enum Line {
     In,
-    Const(u32),
-    Neg(u32),
-    Rot(u32, i32),
-    Add(u32, u32),
-    Mul(u32, u32),
-    Out(u32),
-    Enc { of: u32, scale: u32, level: u32 },
-    Rs(u32, u32),
-    Ms(u32, u32),
-    Us(u32, u32),
+    Const(u16),
+    Neg(u16),
+    Rot(u16, i16),
+    Add(u16, u16),
+    Mul(u16, u16),
+    Out(u16),
+    Enc { of: u16, scale: u16, level: u32 },
+    Rs(u16, u16),
+    Ms(u16, u16),
+    Us(u16, u16),
     Free,
-}
-
-// One record of a table.
-pub struct Record {
-    pub line: Line,
-}
-
-// A file that was read: its header, and its lines in the first `count` records. The rest are free.
-pub struct Table {
-    pub header: Header,
-    pub lines: [Record; 1792],
-    pub count: usize,
 }
 
 // The two files of document 01.

@@ -8,26 +8,31 @@ ghost use Rattle.services.specs.Outcomes.{planOutcome, leastOutcome, replyOf, R
 pub fn plan(circuit: &[u8], out: &mut [u8]) -> Reply
     ensures { λ r. ⌜ Replied (planOutcome (now (circuit .entry))) (now (out .entry)) r (now (out .exit)) ⌝ }
 {
-    let read = reader::read_circuit(circuit);
+    let mut records = [[0u16; 4]; 1792];
+    let read = reader::read_circuit(circuit, &mut records);
     if read.number != 0 {
         return replies::refusal(read.number, 1, read.place);
     }
-    let walked = reserves::best_lines(read.table);
+    let header = read.header;
+    let walked = reserves::best_lines(header, &records, read.count);
     if walked.number != 0 {
         return replies::refusal(walked.number, 1, walked.line + 2);
     }
     let known = walked.known;
-    let schedule = drafts::plan_table(read.table, known);
-    replies::lend(out, Grammar::Schedule, schedule)
+    let mut schedule = [[0u16; 4]; 1792];
+    let length = drafts::plan_table(header, &records, read.count, known, &mut schedule);
+    replies::lend(out, Grammar::Schedule, header, &schedule, length)
 }
 
 // The least top level. The header's own level is only tested for its range.
 pub fn least_level(circuit: &[u8]) -> Reply
     ensures { λ r. ⌜ r ≡ replyOf (leastOutcome (now (circuit .entry))) ⌝ }
 {
-    let read = reader::read_circuit(circuit);
+    let mut records = [[0u16; 4]; 1792];
+    let read = reader::read_circuit(circuit, &mut records);
     if read.number != 0 {
         return replies::refusal(read.number, 1, read.place);
     }
-    replies::answered(1, levels::least_level(read.table))
+    let header = read.header;
+    replies::answered(1, levels::least_level(header, &records, read.count))
 }

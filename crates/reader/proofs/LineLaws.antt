@@ -22,7 +22,7 @@ use Rattle.text.specs.Lines.{readLine}
 use Rattle.text.specs.Files.{Reading, read, refused, keptCount, tooMany, onward, readLines, afterHeader, readHeader, readText}
 use Rattle.text.proofs.FileLaws as FileLaws
 use Rattle.text.proofs.FileLaws.{kept-append, headed}
-use Rattle.reader.specs.Reads.{nextLine, linesOf, keptWith}
+use Rattle.reader.specs.Reads.{nextLine, restOf, keptWith}
 
 -- ---- kept lines
 pub kept-with : (done : List Line) (x : Line) → keptCount (done ++ (x ∷ [])) ≡ keptWith (keptCount done) x
@@ -57,7 +57,7 @@ module _ (c : Context) where
   pub header-line :
       (text : Bytes) → before lineFeed text < length text →
       readText c text
-      ≡ afterHeader (readHeader (c .grammar) (take (before lineFeed text) text)) (λ h. linesOf c h (drop (suc (before lineFeed text)) text))
+      ≡ afterHeader (readHeader (c .grammar) (take (before lineFeed text) text)) (λ h. restOf c h (drop (suc (before lineFeed text)) text))
   unfolding readText
   header-line text l =
       rw (split-cut lineFeed text l)
@@ -126,4 +126,13 @@ module _ (c : Context) where
         (λ few. by-test P (ltb (before lineFeed text) (length text)) _ _
         (λ l q. record { below = ltb-true (length done) (c .limit) (under (ltb (length done) (c .limit)) _ few); ended = ltb-true (before lineFeed text) (length text) l })
         (λ unended q. refused-taken 1 (placeOf (length done)) x q))
+        e
+
+    -- and is what its bytes read to
+    pub line-read : (text : Bytes) (done : List Line) {x : Line} → nextLine c h done text ≡ Good x → readLine c h done (take (before lineFeed text) text) ≡ Good x
+    unfolding nextLine
+    line-read text done {x} e =
+        let P : LineRead → Type 0 = λ r. r ≡ Good x → readLine c h done (take (before lineFeed text) text) ≡ Good x in
+        by-test P (tooMany c done (take (before lineFeed text) text)) _ _ (λ over q. refused-taken 3 (placeOf (length done)) x q)
+        (λ few. by-test P (ltb (before lineFeed text) (length text)) _ _ (λ l q. q) (λ unended q. refused-taken 1 (placeOf (length done)) x q))
         e

@@ -4,8 +4,8 @@
 // A text stands after a line that begins with `c`, `s` or `e`, for a circuit, a schedule and a schedule for erasing, and ends before a byte 28.
 use libc::STDOUT_FILENO;
 use model::Grammar;
-use model::Table;
-use text::FileRead;
+use model::Header;
+use reader::FileRead;
 
 fn print_front(bytes: &[u8], n: usize) {
     if n <= bytes.len() {
@@ -13,15 +13,18 @@ fn print_front(bytes: &[u8], n: usize) {
     }
 }
 
-fn print_table(grammar: Grammar, table: Table) {
+fn print_table(grammar: Grammar, header: Header, records: &[[u16; 4]], count: usize) {
     let mut out = io::large_buffer();
-    if 1792 < table.count {
+    if 1792 != records.len() {
         return;
     }
-    if 65536 < writer::file_len(grammar, table) {
+    if 1792 < count {
         return;
     }
-    let n = writer::put_file(&mut out, grammar, table);
+    if 65536 < writer::file_len(grammar, header, records, count) {
+        return;
+    }
+    let n = writer::put_file(&mut out, grammar, header, records, count);
     print_front(&out, n);
 }
 
@@ -33,24 +36,29 @@ fn print_refusal(number: u32, place: u32) {
     io::write_all(STDOUT_FILENO, b"\n");
 }
 
-fn print_reading(grammar: Grammar, reading: FileRead) {
+fn print_reading(grammar: Grammar, reading: FileRead, records: &[[u16; 4]]) {
     if reading.number == 0 {
-        print_table(grammar, reading.table);
+        let header = reading.header;
+        print_table(grammar, header, records, reading.count);
         return;
     }
     print_refusal(reading.number, reading.place);
 }
 
 fn print_text(kind: u8, text: &[u8]) {
+    let mut records = [[0u16; 4]; 1792];
     if kind == b'c' {
-        print_reading(Grammar::Circuit, reader::read_circuit(text));
+        let reading = reader::read_circuit(text, &mut records);
+        print_reading(Grammar::Circuit, reading, &records);
         return;
     }
     if kind == b's' {
-        print_reading(Grammar::Schedule, reader::read_schedule(text));
+        let reading = reader::read_schedule(text, &mut records);
+        print_reading(Grammar::Schedule, reading, &records);
         return;
     }
-    print_reading(Grammar::Schedule, reader::read_erase(text));
+    let reading = reader::read_erase(text, &mut records);
+    print_reading(Grammar::Schedule, reading, &records);
 }
 
 // One text after its line.

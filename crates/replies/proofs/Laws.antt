@@ -1,18 +1,26 @@
 -- Replies, test by test: which file is at fault, each answer, and the text where it fits. Assumes nothing.
-use Prim.Native.Nat.{ℕ, _≤_, _<_}
+use Prim.Native.Nat.{ℕ, _+_, _*_, _≤_, _<_}
 use native.Mathlib.Omega.{arith}
-use mathlib.Core.Path.{_≡_}
+use mathlib.Core.Path.{_≡_, sym, ap, _∙_, subst}
+use mathlib.Core.List.{List}
 use mathlib.Core.Bool.{true, false}
 use borrow.Author.Needs.{needs}
 use borrow.Author.Tests.{ne-eqb, le-leb, lt-leb}
-use lib.Dec.{leb}
-use lib.ListN.{length}
+use lib.Dec.{T, leb, leb→le}
+use lib.ListN.{length, length-map}
 use mir.Syntax.{w32}
 use mir.Val.{Fits}
 use Rattle.fields.specs.Pieces.{Bytes}
+use Rattle.model.specs.declared.Grammar.{Grammar}
+use Rattle.model.specs.declared.Header.{Header}
 use Rattle.model.specs.declared.Answer.{Answer}
 use Rattle.model.specs.declared.Answer.the-variants.{Done, Level, Refused}
 use Rattle.model.specs.Refused.{answerFile}
+use Rattle.text.specs.Files.{fileOf}
+use Rattle.text.specs.Write.{fileText}
+use Rattle.text.proofs.Tables.{count-length}
+use Rattle.text.proofs.Most.{text-most}
+use Rattle.tables.specs.Records.{lineOf, held}
 use Rattle.writer.specs.Put.{Written, Counted}
 use Rattle.services.specs.declared.Reply.{Reply}
 use Rattle.services.specs.Outcomes.{Outcome, writes, refuses, answered, replyOf, Replied}
@@ -39,23 +47,40 @@ module _ (file : ℕ) (a : Answer) where
   pub answer-refused : (n p f : ℕ) (r : Reply) → a ≡ Refused n p → f ≡ answerFile file (Refused n p) → r ≡ replyOf (refuses n f p) → r ≡ replyOf (answered file a)
   answer-refused n p f r e q s = rw (e, ← q) s
 
+-- ---- the bytes that are needed
+module _ (g : Grammar) (h : Header) (records : List (List ℕ)) (count : ℕ) (all : length records ≡ 1792) (few : count ≤ 1792) where
+  abbrev held-text : Bytes
+  held-text = fileText g (fileOf (held h records count))
+
+  text-few : length held-text ≤ 72 * count + 75
+  text-few =
+      omega (arith, text-most g (fileOf (held h records count)), count-length (held h records count) (length-map records lineOf ∙ all) few)
+
+  pub room-for-all : (room : ℕ) → 72 * count + 75 ≤ room → leb (72 * count + 75) room ≡ leb (length held-text) room
+  room-for-all room enough =
+      le-leb (72 * count + 75) room enough ∙ sym (le-leb (length held-text) room (omega (arith, text-few)))
+
+  pub counted-through : (room needed : ℕ) → Counted held-text 129096 needed → leb needed room ≡ leb (length held-text) room
+  counted-through room needed c = ap (λ (n : ℕ). leb n room) (c .counted)
+
+  pub length-fits : (out after : Bytes) (written : ℕ) → Written out held-text written after → Fits w32 written
+  length-fits out after written w = record { fits = omega (arith, text-few, w .counted) }
+
 -- ---- the text, where it fits
-module _ (text out : Bytes) (needed : ℕ) (c : Counted text 129096 needed) where
+module _ (text out : Bytes) (needed : ℕ) (same : leb needed (length out) ≡ leb (length text) (length out)) where
   pub too-short : (r : Reply) → length out < needed → r ≡ replyOf (refuses 13 0 0) → Replied (writes text) out r out
   too-short r short e =
-      let test : leb (length text) (length out) ≡ false = lt-leb (length text) (length out) (omega (arith, c .counted)) in
+      let test : leb (length text) (length out) ≡ false = sym same ∙ lt-leb needed (length out) short in
       record { reply = rw test e; bytes = rw test }
 
-  pub fits : needed ≤ length out → length text ≤ length out
-  fits enough = omega (arith, c .counted)
+  module _ (enough : needed ≤ length out) where
+    test : leb (length text) (length out) ≡ true
+    test = sym same ∙ le-leb needed (length out) enough
 
-  module _ (enough : needed ≤ length out) (written : ℕ) (after : Bytes) (w : Written out text written after) where
-    pub length-fits : Fits w32 written
-    length-fits = record { fits = omega (arith, c .bounded, c .counted, w .counted) }
+    pub fits : length text ≤ length out
+    fits = leb→le (length text) (length out) (subst T (sym test) tt)
 
-    pub all-written : Replied (writes text) out (record { number = 0; file = 0; place = 0; length = written }) after
-    all-written =
-        let test : leb (length text) (length out) ≡ true = le-leb (length text) (length out) (omega (arith, c .counted)) in
-        record { reply = rw (test, w .counted); bytes = rw test (w .bytes) }
+    pub all-written : (written : ℕ) (after : Bytes) → Written out text written after → Replied (writes text) out (record { number = 0; file = 0; place = 0; length = written }) after
+    all-written written after w = record { reply = rw (test, w .counted); bytes = rw test (w .bytes) }
 
-pub ruleset reply-laws = (needs, no-place, other-circuit, its-own, answer-done, answer-level, answer-refused, too-short, fits, length-fits, all-written)
+pub ruleset reply-laws = (needs, no-place, other-circuit, its-own, answer-done, answer-level, answer-refused, room-for-all, counted-through, too-short, fits, length-fits, all-written)

@@ -1,13 +1,15 @@
 // From what a service comes to, to its reply: a refusal, an answer on tables that were read, or a table's text in the buffer that is lent.
 use model::Answer;
 use model::Grammar;
-use model::Table;
+use model::Header;
 use services::Reply;
 ghost use mathlib.Core.Path.{_≡_};
 ghost use Prim.Native.Nat.{_≤_};
+ghost use lib.Dec.{leb};
 ghost use lib.ListN.{length};
 ghost use Rattle.model.specs.Refused.{answerFile};
 ghost use Rattle.model.specs.declared.Answer.the-variants.{Refused};
+ghost use Rattle.tables.specs.Records.{held};
 ghost use Rattle.text.specs.Files.{fileOf};
 ghost use Rattle.text.specs.Write.{fileText};
 ghost use Rattle.services.specs.Outcomes.{writes, refuses, answered, replyOf, Replied};
@@ -53,16 +55,43 @@ pub fn answered(file: u32, answer: Answer) -> Reply
     }
 }
 
-// The text is written only when it is known to fit.
-pub fn lend(out: &mut [u8], grammar: Grammar, table: Table) -> Reply
-    requires { ⌜ table .count ≤ 1792 ⌝ }
-    ensures { λ r. ⌜ Replied (writes (fileText grammar (fileOf table))) (now (out .entry)) r (now (out .exit)) ⌝ }
+// The bytes that the text needs. No line is longer than 72 bytes, so where there is room for as many of those as there are lines, and for the
+// header, the lines are not counted through.
+fn bytes_needed(
+    room: usize,
+    grammar: Grammar,
+    header: Header,
+    records: &[[u16; 4]],
+    count: usize,
+) -> usize
+    requires { ⌜ length (now records) ≡ 1792 ⌝ }
+    requires { ⌜ count ≤ 1792 ⌝ }
+    ensures { λ r. ⌜ leb r room ≡ leb (length (fileText grammar (fileOf (held header (now (records .entry)) count)))) room ⌝ }
 {
-    let needed = writer::file_len(grammar, table);
+    let most = 72 * count + 75;
+    if most <= room {
+        return most;
+    }
+    writer::file_len(grammar, header, records, count)
+}
+
+// The text is written only when it is known to fit.
+pub fn lend(
+    out: &mut [u8],
+    grammar: Grammar,
+    header: Header,
+    records: &[[u16; 4]],
+    count: usize,
+) -> Reply
+    requires { ⌜ length (now records) ≡ 1792 ⌝ }
+    requires { ⌜ count ≤ 1792 ⌝ }
+    ensures { λ r. ⌜ Replied (writes (fileText grammar (fileOf (held header (now (records .entry)) count)))) (now (out .entry)) r (now (out .exit)) ⌝ }
+{
+    let needed = bytes_needed(out.len(), grammar, header, records, count);
     if out.len() < needed {
         return refusal(13, 0, 0);
     }
-    let written = writer::put_file(out, grammar, table);
+    let written = writer::put_file(out, grammar, header, records, count);
     Reply {
         number: 0,
         file: 0,

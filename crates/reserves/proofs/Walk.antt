@@ -9,18 +9,16 @@ use mathlib.Core.Option.{some}
 use borrow.Author.Needs.{needs}
 use borrow.Author.Tests.{lt-ltb, le-ltb, ne-eqb}
 use lib.Dec.{leb→le}
-use lib.ListN.{length, getD, getElem?, take, drop, set, replicate, length-map, length-set, List·getD-map, drop-of-length-le}
-use lib.Seq.{length-take-le, take-suc-set, getD-take, drop-cons}
+use lib.ListN.{length, getD, getElem?, take, drop, set, replicate, length-map, length-set, List·getD-map}
+use lib.Seq.{length-take-le, take-suc-set, getD-take}
 use Rattle.model.specs.declared.Header.{Header}
 use Rattle.model.specs.declared.Line.{Line}
 use Rattle.model.specs.declared.Line.the-variants.{In, Const, Neg, Rot, Add, Mul, Out, Enc, Rs, Ms, Us, Free}
-use Rattle.model.specs.declared.Record.{Record}
-use Rattle.model.specs.declared.Table.{Table}
 use Rattle.model.specs.declared.Grammar.the-variants.{Circuit}
 use Rattle.model.specs.declared.Best.{Best}
 use Rattle.model.specs.declared.Best.the-variants as Bests
 use Rattle.model.specs.declared.Known.{Known}
-use Rattle.model.specs.Files.{tableLines, TableFormed}
+use Rattle.model.specs.Files.{Table, tableLines, TableFormed}
 use Rattle.model.specs.Machine.{Step, goes, stops, Run, finished, stopped, step, countIn, runFrom, run}
 use Rattle.model.specs.Plan.{bestMachine}
 use Rattle.model.proofs.Lists.{found-at, none-past}
@@ -29,16 +27,15 @@ use Rattle.model.proofs.Formed.{well-header}
 use Rattle.model.proofs.Tests.{below-or-not, header-facts}
 use Rattle.reserves.specs.Ranges.{HeaderRanges, SmallBest}
 use Rattle.tables.specs.Operands.{firstOperand, secondOperand}
+use Rattle.tables.specs.Records.{lineOf, held}
+use Rattle.tables.proofs.Records.{lineAt, Held, next-line, no-line}
 use Rattle.reserves.specs.Steps.{stepOf, bestOf, entryOf, bestAfter}
 use Rattle.reserves.specs.Walks.{bestsOf, walkOf}
 use Rattle.reserves.specs.declared.Placing.{Placing}
 use Rattle.reserves.specs.declared.Placing.the-variants.{Goes, Stops}
 use Rattle.reserves.proofs.Bounds.{Numbered, constant-small, after-sound}
 
--- what the code's reading of an array would give past its end: the first variant of each enum
-abbrev pub noRecord : Record
-noRecord = record { line = In }
-
+-- what the code's reading of an array would give past its end: the first variant
 abbrev pub bare : Known
 bare = record { best = Bests.Constant }
 
@@ -145,28 +142,22 @@ walk-start h t known g f wide small =
       left = refl;
     }
 
-lines-long : (t : Table) → t .count ≤ length (t .lines) → length (tableLines t) ≡ t .count
-lines-long t k = rw length-map (length-take-le (t .count) (t .lines) k)
-
--- line i, as the code reads it
-abbrev pub lineAt : Table → ℕ → Line
-lineAt t i = getD (t .lines) i noRecord .line
-
-line-at : (t : Table) (i : ℕ) → i < t .count → getD (tableLines t) i In ≡ lineAt t i
-line-at t i l = List·getD-map (λ (r : Record). r .line) (take (t .count) (t .lines)) i noRecord ∙ ap (λ (r : Record). r .line) (getD-take (t .count) (t .lines) i noRecord l)
-
 module _ {h : Header} {t : Table} {known : List Known} {i : ℕ} (w : Walking h t known i) where
-  all-lines : length (tableLines t) ≡ t .count
-  all-lines = lines-long t (omega (arith, w .few, w .room))
+  table-held : Held t
+  table-held = record { few = omega (arith, w .few); all = w .room }
 
   -- every line is walked
   pub walk-done : t .count ≤ i → run (bestMachine h) (tableLines t) ≡ finished (bestsOf (t .count) known)
   walk-done k =
       let same : t .count ≡ i = omega (arith, w .within) in
-      sym (w .left) ∙ rw (drop-of-length-le (tableLines t) {i = i} (omega (arith, all-lines)), same)
+      sym (w .left) ∙ rw (no-line t table-held i k, same)
 
   pub walk-finished : t .count ≤ i → walkOf (record { number = 0; line = 0; known = known }) (t .count) ≡ run (bestMachine h) (tableLines t)
   walk-finished k = sym (walk-done k)
+
+-- a line that is left has a record
+pub record-below : {h header : Header} (records : List (List ℕ)) {count : ℕ} {known : List Known} {i : ℕ} → Walking h (held header records count) known i → i < count → i < length records
+record-below records w l = omega (arith, w .few, w .room, length-map records lineOf)
 
 -- an operand's place is one of the entries, and every entry is small
 pub place-below : {h : Header} {t : Table} {known : List Known} {i : ℕ} → Walking h t known i → i < t .count → (a k : ℕ) → a ≡ min k i → a < 256
@@ -175,30 +166,27 @@ place-below w l a k e = omega (arith, w .few)
 pub entry-small : {h : Header} {t : Table} {known : List Known} {i : ℕ} → Walking h t known i → (a : ℕ) → SmallBest (getD known a bare .best)
 entry-small w a = w .small a
 
--- one line, with the entries of its operands at a and b
-module _ {h : Header} {t : Table} {known : List Known} {i : ℕ} (w : Walking h t known i) (l : i < t .count)
-    (a b : ℕ) (ea : a ≡ min (firstOperand (lineAt t i)) i) (eb : b ≡ min (secondOperand (lineAt t i)) i)
-    (r : Placing) (er : stepOf r ≡ bestAfter h (lineAt t i) i (getD known a bare) (getD known b bare)) where
+-- one line x, with the entries of its operands at a and b
+module _ {h : Header} {t : Table} {known : List Known} {i : ℕ} (w : Walking h t known i) (l : i < t .count) (x : Line) (ex : x ≡ lineAt t i)
+    (a b : ℕ) (ea : a ≡ min (firstOperand x) i) (eb : b ≡ min (secondOperand x) i)
+    (r : Placing) (er : stepOf r ≡ bestAfter h x i (getD known a bare) (getD known b bare)) where
   looked : (c k : ℕ) → c ≡ min k i → entryOf k i (getD known c bare) ≡ getElem? (bestsOf i known) k
   looked c k e = ap (λ (j : ℕ). entryOf k i (getD known j bare)) e ∙ entry-found known i k (omega (arith, w .few, w .wide))
 
-  stepped : stepOf r ≡ step (bestMachine h) (w .ins) (bestsOf i known) (lineAt t i)
+  stepped : stepOf r ≡ step (bestMachine h) (w .ins) (bestsOf i known) x
   unfolding bestAfter
   stepped =
-      er ∙ ap₂ (bestOf h (lineAt t i)) (looked a (firstOperand (lineAt t i)) ea) (looked b (secondOperand (lineAt t i)) eb)
-      ∙ step-is h (w .ins) (bestsOf i known) (lineAt t i)
-
-  line-left : drop i (tableLines t) ≡ lineAt t i ∷ drop (suc i) (tableLines t)
-  line-left = drop-cons (tableLines t) i In (omega (arith, all-lines w)) ∙ ap (λ (y : Line). y ∷ drop (suc i) (tableLines t)) (line-at t i l)
+      er ∙ ap₂ (bestOf h x) (looked a (firstOperand x) ea) (looked b (secondOperand x) eb)
+      ∙ step-is h (w .ins) (bestsOf i known) x
 
   -- the walk from this line on
-  next : onward h (w .ins) (bestsOf i known) (lineAt t i) (drop (suc i) (tableLines t)) i (stepOf r) ≡ run (bestMachine h) (tableLines t)
+  next : onward h (w .ins) (bestsOf i known) x (drop (i + 1) (tableLines t)) i (stepOf r) ≡ run (bestMachine h) (tableLines t)
   next =
-      first-step h (w .ins) (bestsOf i known) (lineAt t i) (drop (suc i) (tableLines t)) i (stepOf r) (sym (bests-long known i (omega (arith, w .few, w .wide)))) stepped
-      ∙ ap (runFrom (bestMachine h) (w .ins) (bestsOf i known)) (sym line-left) ∙ w .left
+      first-step h (w .ins) (bestsOf i known) x (drop (i + 1) (tableLines t)) i (stepOf r) (sym (bests-long known i (omega (arith, w .few, w .wide)))) stepped
+      ∙ ap (runFrom (bestMachine h) (w .ins) (bestsOf i known)) (ap (λ (y : Line). y ∷ drop (i + 1) (tableLines t)) ex ∙ sym (next-line t (table-held w) i l)) ∙ w .left
 
   sound : Outcome Numbered SmallBest (stepOf r)
-  sound = rw er (after-sound h (w .ranges) (lineAt t i) i (getD known a bare) (getD known b bare) (w .small a) (w .small b))
+  sound = rw er (after-sound h (w .ranges) x i (getD known a bare) (getD known b bare) (w .small a) (w .small b))
 
   -- the line stops the walk
   pub walk-stops : (n : ℕ) → r ≡ Stops n → run (bestMachine h) (tableLines t) ≡ stopped i n
@@ -218,8 +206,8 @@ module _ {h : Header} {t : Table} {known : List Known} {i : ℕ} (w : Walking h 
         wide = length-set known i (record { best = best }) ∙ w .wide;
         within = omega arith;
         small = stored-small known i (record { best = best }) (w .small) (rw e at sound);
-        ins = countIn (lineAt t i) (w .ins);
-        left = rw (more, add-one i) (rw e at next);
+        ins = countIn x (w .ins);
+        left = rw more (rw e at next);
       }
 
-pub ruleset walk = (needs, circuit-ranges, bare-small, walk-start, place-below, entry-small, walk-stopped, walk-more, walk-finished)
+pub ruleset walk = (needs, circuit-ranges, bare-small, walk-start, record-below, place-below, entry-small, walk-stopped, walk-more, walk-finished)

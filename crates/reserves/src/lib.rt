@@ -7,16 +7,16 @@ use model::Header;
 use model::Known;
 use model::Line;
 use model::Placement;
-use model::Table;
 ghost use mathlib.Core.Path.{_≡_};
 ghost use Prim.Native.Nat.{min};
 ghost use lib.ListN.{length};
 ghost use Rattle.model.specs.declared.Grammar.the-variants.{Circuit};
-ghost use Rattle.model.specs.Files.{tableLines, TableFormed};
+ghost use Rattle.model.specs.Files.{TableFormed};
 ghost use Rattle.model.specs.Machine.{run};
 ghost use Rattle.model.specs.Plan.{bestMachine};
 ghost use Rattle.reserves.specs.Ranges.{HeaderRanges, SmallBest, SmallOperand};
 ghost use Rattle.reserves.specs.Steps.{stepOf, found, bestOf, entryOf, bestAfter};
+ghost use Rattle.tables.specs.Records.{linesHeld, held};
 ghost use Rattle.tables.specs.Operands.{firstOperand, secondOperand};
 ghost use Rattle.reserves.specs.Walks.{walkOf};
 
@@ -61,7 +61,7 @@ pub fn best_of(header: Header, line: Line, first: Operand, second: Operand) -> P
 }
 
 // What an operand has after `count` lines, where its entry is known.
-fn operand_of(number: u32, count: usize, known: Known) -> Operand
+fn operand_of(number: u16, count: usize, known: Known) -> Operand
     ensures { λ r. ⌜ found r ≡ entryOf number count known ⌝ }
 {
     if count <= (number as usize) {
@@ -87,7 +87,7 @@ pub fn best_after(header: Header, line: Line, count: usize, first: Known, second
 }
 
 // Where an operand's entry stands among those of `count` lines: just past them where it names none of them.
-fn place_of(number: u32, count: usize) -> usize
+fn place_of(number: u16, count: usize) -> usize
     ensures { λ r. ⌜ r ≡ min number count ⌝ }
 {
     let place = number as usize;
@@ -115,20 +115,17 @@ pub struct Walked {
 }
 
 // The best of each line of a circuit, or the first line with a best reserve below zero.
-pub fn best_lines(circuit: Table) -> Walked
-    requires { ⌜ TableFormed Circuit circuit ⌝ }
-    ensures { λ r. ⌜ walkOf r (circuit .count) ≡ run (bestMachine (circuit .header)) (tableLines circuit) ⌝ }
+pub fn best_lines(header: Header, circuit: &[[u16; 4]], count: usize) -> Walked
+    requires { ⌜ TableFormed Circuit (held header (now circuit) count) ⌝ }
+    ensures { λ r. ⌜ walkOf r count ≡ run (bestMachine header) (linesHeld (now (circuit .entry)) count) ⌝ }
     ensures wide { λ r. ⌜ length (r .known) ≡ 256 ⌝ }
 {
-    let header = circuit.header;
-    let count = circuit.count;
     let mut known = [Known {
         best: Best::Constant,
     }; 256];
     let mut i: usize = 0;
     while i < count {
-        let record = circuit.lines[i];
-        let line = record.line;
+        let line = tables::line_at(circuit, i);
         let a = first_place(line, i);
         let b = second_place(line, i);
         match best_after(header, line, i, known[a], known[b]) {

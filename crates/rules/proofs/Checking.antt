@@ -2,23 +2,22 @@
 use Prim.Native.Nat.{ℕ, suc, _+_, _≤_, _<_}
 use native.Mathlib.Numerals.{add-one}
 use native.Mathlib.Omega.{arith}
-use mathlib.Core.Path.{_≡_, refl, sym, ap, _∙_}
+use mathlib.Core.Path.{_≡_, refl, sym, ap, _∙_, subst}
 use mathlib.Core.List.{List, [], _∷_, _++_}
 use borrow.Author.Needs.{needs}
 use lib.Dec.{T, leb→le}
-use lib.ListN.{length, getD, take, drop, set, replicate, length-set, length-replicate, drop-of-length-le, List·getD-map}
+use lib.ListN.{length, getD, take, drop, set, replicate, length-map, length-set, length-replicate, drop-of-length-le}
 use lib.Seq.{length-take-le, split-at, drop-cons, take-suc-set, getD-take}
 use Rattle.model.specs.declared.Grammar.the-variants.{Schedule}
+use Rattle.model.specs.declared.Header.{Header}
 use Rattle.model.specs.declared.Line.{Line}
-use Rattle.model.specs.declared.Line.the-variants.{In}
-use Rattle.model.specs.declared.Record.{Record}
-use Rattle.model.specs.declared.Table.{Table}
+use Rattle.model.specs.declared.Line.the-variants.{Free}
 use Rattle.model.specs.declared.Answer.{Answer}
 use Rattle.model.specs.declared.Answer.the-variants.{Done, Refused}
 use Rattle.model.specs.declared.Found.{Found}
 use Rattle.model.specs.declared.Found.the-variants as Founds
 use Rattle.model.specs.Scales.{headerInRange}
-use Rattle.model.specs.Files.{placeOf, inRange, operands, tableLines, TableFormed}
+use Rattle.model.specs.Files.{placeOf, inRange, operands, TableFormed}
 use Rattle.model.specs.Machine.{Step, goes, stops, Run, finished, stopped, step, countIn, runFrom, run}
 use Rattle.model.specs.Refused.{checkMachine, rulesAnswer}
 use Rattle.model.proofs.Formed.{LineFacts, well-header, well-lines, formed-line}
@@ -26,34 +25,33 @@ use Rattle.text.proofs.Tables.{table-length}
 use Rattle.rules.specs.declared.bounds.Ruled.{Ruled}
 use Rattle.rules.specs.declared.bounds.Ruled.the-variants.{Goes, Stops}
 use Rattle.rules.specs.Ruled.{stepOf, ruledBy, Small}
+use Rattle.rules.specs.Numbers.{foundIn}
 use Rattle.tables.specs.Operands.{firstOperand, secondOperand}
+use Rattle.tables.specs.Records.{lineOf, linesOf, linesHeld, held}
+use Rattle.rules.proofs.NumberLaws.{foundAll, found-at, none-found, found-set}
 use Rattle.rules.proofs.Operands.{first-within, second-within, step-is}
 use Rattle.rules.proofs.SmallLaws.{AllSmall, bare-small, set-small, found-small}
 
-abbrev lineOf : Record → Line
-lineOf r = r .line
-
-abbrev pub lineAt : Table → ℕ → Line
-lineAt t i = getD (t .lines) i (record { line = In }) .line
-
--- The loop's invariant: with what was found of the first i lines held, the lines left come to what all lines come to.
-pub record Checking (t : Table) (found : List Found) (i : ℕ) : Type 0 where
-  pub formed : TableFormed Schedule t
-  pub wide : length found ≡ 1792
-  pub small : AllSmall found
-  pub few : t .count ≤ 1792
-  pub within : i ≤ t .count
+-- The loop's invariant: with what was found of the first i lines held as numbers, the lines left come to what all lines come to.
+pub record Checking (h : Header) (records : List (List ℕ)) (count : ℕ) (numbers : List (List ℕ)) (i : ℕ) : Type 0 where
+  pub formed : TableFormed Schedule (held h records count)
+  pub wide : length numbers ≡ 1792
+  pub small : AllSmall (foundAll numbers)
+  pub few : count ≤ 1792
+  pub within : i ≤ count
   -- how many `in` lines stand before, which the check does not ask
   pub ins : ℕ
-  pub left : runFrom (checkMachine (t .header)) ins (take i found) (drop i (tableLines t)) ≡ run (checkMachine (t .header)) (tableLines t)
+  pub left : runFrom (checkMachine h) ins (take i (foundAll numbers)) (drop i (linesHeld records count)) ≡ run (checkMachine h) (linesHeld records count)
 
-pub start : (t : Table) → TableFormed Schedule t → Checking t (replicate 1792 Founds.Bare) 0
-start t formed =
+pub start :
+    (h : Header) (records : List (List ℕ)) (count : ℕ) → TableFormed Schedule (held h records count) →
+    Checking h records count (replicate 1792 (replicate 3 0)) 0
+start h records count formed =
     record {
       formed = formed;
-      wide = length-replicate 1792 Founds.Bare;
-      small = bare-small 1792;
-      few = leb→le (t .count) 1792 (formed .few);
+      wide = length-replicate {A = List ℕ} 1792 (replicate {A = ℕ} 3 0);
+      small = subst AllSmall (sym (none-found 1792)) (bare-small 1792);
+      few = leb→le count 1792 (formed .few);
       within = omega arith;
       ins = 0;
       left = refl;
@@ -62,101 +60,112 @@ start t formed =
 abbrev answer : Run Found ℕ → Answer
 answer r = elim r [ finished found ↦ Done | stopped i n ↦ Refused n (placeOf i) ]
 
-module _ {t : Table} {found : List Found} {i : ℕ} (k : Checking t found i) where
-  lines-long : length (tableLines t) ≡ t .count
-  lines-long = table-length Schedule t (k .formed)
+module _ (h : Header) (records : List (List ℕ)) (count : ℕ) (numbers : List (List ℕ)) (i : ℕ) (k : Checking h records count numbers i) where
+  abbrev lines : List Line
+  lines = linesHeld records count
 
-  held-long : length (take i found) ≡ i
-  held-long = length-take-le i found (omega (arith, k .wide, k .within, k .few))
+  abbrev found : List Found
+  found = foundAll numbers
+
+  abbrev line : Line
+  line = getD (linesOf records) i Free
+
+  lines-long : length lines ≡ count
+  lines-long = table-length Schedule (held h records count) (k .formed)
+
+  found-wide : length found ≡ 1792
+  found-wide = length-map numbers foundIn ∙ k .wide
+
+  found-long : length (take i found) ≡ i
+  found-long = length-take-le i found (omega (arith, found-wide, k .within, k .few))
 
   -- no line is left
-  pub all-pass : t .count ≤ i → Done ≡ rulesAnswer (t .header) (tableLines t)
+  pub all-pass : count ≤ i → Done ≡ rulesAnswer h lines
   all-pass end =
-      let past : length (tableLines t) ≤ i = omega (arith, lines-long) in
-      ap answer (ap (runFrom (checkMachine (t .header)) (k .ins) (take i found)) (sym (drop-of-length-le (tableLines t) past)) ∙ k .left)
+      let past : length lines ≤ i = omega (arith, lines-long) in
+      ap answer (ap (runFrom (checkMachine h) (k .ins) (take i found)) (sym (drop-of-length-le lines past)) ∙ k .left)
 
-  pub header-ranged : T (headerInRange (t .header))
-  header-ranged = well-header Schedule (t .header) (tableLines t) (k .formed .lines)
+  pub header-ranged : T (headerInRange h)
+  header-ranged = well-header Schedule h lines (k .formed .lines)
 
-  pub small-at : (a : ℕ) → Small (getD found a Founds.Bare)
-  small-at a = k .small a
+  pub small-at : (a : ℕ) (v : Found) → v ≡ foundIn (getD numbers a []) → Small v
+  small-at a v e = subst Small (sym (found-at numbers a v e)) (k .small a)
 
   -- line i, and what is left after it
   abbrev onward : Step Found ℕ → Run Found ℕ
   onward s =
       elim s [
-        | goes v ↦ runFrom (checkMachine (t .header)) (countIn (lineAt t i) (k .ins)) (take i found ++ (v ∷ [])) (drop (suc i) (tableLines t))
+        | goes v ↦ runFrom (checkMachine h) (countIn line (k .ins)) (take i found ++ (v ∷ [])) (drop (suc i) lines)
         | stops n ↦ stopped (length (take i found)) n
       ]
 
-  module _ (more : i < t .count) where
+  module _ (more : i < count) where
     pub room : i < 1792
     room = omega (arith, k .few)
 
-    line-is : getD (tableLines t) i In ≡ lineAt t i
-    line-is =
-        List·getD-map lineOf (take (t .count) (t .lines)) i (record { line = In })
-        ∙ ap lineOf (getD-take (t .count) (t .lines) i (record { line = In }) more)
+    pub record-there : i < length records
+    record-there = omega (arith, room, length-map records lineOf, k .formed .room)
 
-    parts : tableLines t ≡ take i (tableLines t) ++ (lineAt t i ∷ drop (suc i) (tableLines t))
-    parts =
-        split-at (tableLines t) i In (omega (arith, lines-long))
-        ∙ ap (λ (x : Line). take i (tableLines t) ++ (x ∷ drop (suc i) (tableLines t))) line-is
+    line-is : getD lines i Free ≡ line
+    line-is = getD-take count (linesOf records) i Free more
 
-    facts : LineFacts Schedule (t .header) (take i (tableLines t)) (lineAt t i)
-    facts =
-        formed-line Schedule (t .header) (tableLines t) (well-lines Schedule (t .header) (tableLines t) (k .formed .lines))
-        (take i (tableLines t)) (lineAt t i)
-        (drop (suc i) (tableLines t)) (sym parts)
+    parts : lines ≡ take i lines ++ (line ∷ drop (suc i) lines)
+    parts = split-at lines i Free (omega (arith, lines-long)) ∙ ap (λ (x : Line). take i lines ++ (x ∷ drop (suc i) lines)) line-is
 
-    before-long : length (take i (tableLines t)) ≡ i
-    before-long = length-take-le i (tableLines t) (omega (arith, lines-long))
+    facts : LineFacts Schedule h (take i lines) line
+    facts = formed-line Schedule h lines (well-lines Schedule h lines (k .formed .lines)) (take i lines) line (drop (suc i) lines) (sym parts)
 
-    pub line-ranged : T (inRange Schedule (t .header) (lineAt t i))
-    line-ranged = facts .range
+    before-long : length (take i lines) ≡ i
+    before-long = length-take-le i lines (omega (arith, lines-long))
 
-    pub first-below : (a : ℕ) → a ≡ firstOperand (lineAt t i) → a < 1792
-    unfolding firstOperand
-    first-below a e =
-        rw e (first-within (take i (tableLines t)) 1792 (omega (arith, before-long, room)) (omega arith) (operands (lineAt t i)) (facts .usable))
+    rest-is : drop i lines ≡ line ∷ drop (suc i) lines
+    rest-is = drop-cons lines i Free (omega (arith, lines-long)) ∙ ap (λ (x : Line). x ∷ drop (suc i) lines) line-is
 
-    pub second-below : (b : ℕ) → b ≡ secondOperand (lineAt t i) → b < 1792
-    unfolding secondOperand
-    second-below b e =
-        rw e (second-within (take i (tableLines t)) 1792 (omega (arith, before-long, room)) (omega arith) (operands (lineAt t i)) (facts .usable))
+    module _ (x : Line) (is : x ≡ line) where
+      pub line-ranged : T (inRange Schedule h x)
+      line-ranged = subst (λ (y : Line). T (inRange Schedule h y)) (sym is) (facts .range)
 
-    module _ (a b : ℕ) (first : a ≡ firstOperand (lineAt t i)) (second : b ≡ secondOperand (lineAt t i)) (r : Ruled)
-        (told : stepOf r ≡ ruledBy (t .header) (lineAt t i) (getD found a Founds.Bare) (getD found b Founds.Bare)) where
-      steps : step (checkMachine (t .header)) (k .ins) (take i found) (lineAt t i) ≡ stepOf r
-      steps =
-          step-is (t .header) (take i (tableLines t)) found (k .ins) i before-long (omega (arith, room, k .wide)) (lineAt t i) (facts .usable)
-          ∙ rw (← first, ← second) (sym told)
+      pub first-below : (a : ℕ) → a ≡ firstOperand x → a < 1792
+      unfolding firstOperand
+      first-below a e =
+          rw (e, is) (first-within (take i lines) 1792 (omega (arith, before-long, room)) (omega arith) (operands line) (facts .usable))
 
-      rest-is : drop i (tableLines t) ≡ lineAt t i ∷ drop (suc i) (tableLines t)
-      rest-is =
-          drop-cons (tableLines t) i In (omega (arith, lines-long)) ∙ ap (λ (x : Line). x ∷ drop (suc i) (tableLines t)) line-is
+      pub second-below : (b : ℕ) → b ≡ secondOperand x → b < 1792
+      unfolding secondOperand
+      second-below b e =
+          rw (e, is) (second-within (take i lines) 1792 (omega (arith, before-long, room)) (omega arith) (operands line) (facts .usable))
 
-      next : onward (stepOf r) ≡ run (checkMachine (t .header)) (tableLines t)
-      next =
-          ap onward (sym steps) ∙ ap (runFrom (checkMachine (t .header)) (k .ins) (take i found)) (sym rest-is) ∙ k .left
+      module _
+          (a b : ℕ) (first : a ≡ firstOperand x) (second : b ≡ secondOperand x) (v w : Found) (v-is : v ≡ foundIn (getD numbers a []))
+          (w-is : w ≡ foundIn (getD numbers b [])) (r : Ruled) (told : stepOf r ≡ ruledBy h x v w) where
+        steps : step (checkMachine h) (k .ins) (take i found) line ≡ stepOf r
+        steps =
+            step-is h (take i lines) found (k .ins) i before-long (omega (arith, room, found-wide)) line (facts .usable)
+            ∙ rw (← is, ← first, ← second, ← found-at numbers a v v-is, ← found-at numbers b w w-is) (sym told)
 
-      -- a line that breaks a rule
-      pub line-refused : (n : ℕ) → r ≡ Stops n → Refused n (i + 2) ≡ rulesAnswer (t .header) (tableLines t)
-      line-refused n e = ap (λ (n′ : ℕ). Refused n (placeOf n′)) (sym held-long) ∙ ap answer (rw e at next)
+        next : onward (stepOf r) ≡ run (checkMachine h) lines
+        next = ap onward (sym steps) ∙ ap (runFrom (checkMachine h) (k .ins) (take i found)) (sym rest-is) ∙ k .left
 
-      -- a line that breaks none, stored
-      pub line-passes : (v : Found) → r ≡ Goes v → Checking t (set found i v) (i + 1)
-      line-passes v e =
-          record {
-            formed = k .formed;
-            wide = length-set found i v ∙ k .wide;
-            small = set-small found i v (k .small)
-                (found-small (t .header) header-ranged (lineAt t i) line-ranged (getD found a Founds.Bare) (getD found b Founds.Bare) v
-                (k .small a) (sym told ∙ ap stepOf e));
-            few = k .few;
-            within = omega arith;
-            ins = countIn (lineAt t i) (k .ins);
-            left = rw (add-one i, take-suc-set found i v (omega (arith, room, k .wide))) (rw e at next);
-          }
+        -- a line that breaks a rule
+        pub line-refused : (n : ℕ) → r ≡ Stops n → Refused n (i + 2) ≡ rulesAnswer h lines
+        line-refused n e = ap (λ (n′ : ℕ). Refused n (placeOf n′)) (sym found-long) ∙ ap answer (rw e at next)
 
-pub ruleset loop-laws = (needs, room, first-below, second-below)
+        -- a line that breaks none
+        module _ (u : Found) (passes : r ≡ Goes u) where
+          pub passed-small : Small u
+          passed-small = found-small h header-ranged x line-ranged v w u (small-at a v v-is) (sym told ∙ ap stepOf passes)
+
+          pub line-passes : (m : List ℕ) → foundIn m ≡ u → Checking h records count (set numbers i m) (i + 1)
+          line-passes m e =
+              let stored : foundAll (set numbers i m) ≡ set found i u = found-set numbers i m ∙ ap (set found i) e in
+              record {
+                formed = k .formed;
+                wide = length-set numbers i m ∙ k .wide;
+                small = subst AllSmall (sym stored) (set-small found i u (k .small) passed-small);
+                few = k .few;
+                within = omega arith;
+                ins = countIn line (k .ins);
+                left = rw (stored, add-one i, take-suc-set found i u (omega (arith, room, found-wide))) (rw passes at next);
+              }
+
+pub ruleset loop-laws = (needs, room, record-there, first-below, second-below)

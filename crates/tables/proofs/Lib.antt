@@ -1,1 +1,5 @@
+pub mod Amounts
+pub mod HeldLines
+pub mod Levels
 pub mod Records
+pub mod Words

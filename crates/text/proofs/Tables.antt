@@ -2,41 +2,33 @@
 use Prim.Native.Nat.{ℕ, zero, suc, _-_, _≤_}
 use native.Mathlib.Omega.{arith}
 use mathlib.Core.Path.{_≡_, refl, sym, ap, _∙_, subst}
-use mathlib.Core.List.{List, [], _∷_, _++_, map}
+use mathlib.Core.List.{List, [], _∷_, _++_}
 use lib.Dec.{T, leb→le, le→leb}
-use lib.ListN.{length, getD, take, replicate, length-append, length-map, length-replicate}
+use lib.ListN.{length, getD, take, replicate, length-append, length-replicate}
 use lib.Seq.{length-take-le}
 use Rattle.model.specs.declared.Grammar.{Grammar}
 use Rattle.model.specs.declared.Grammar.the-variants.{Circuit, Schedule}
 use Rattle.model.specs.declared.Line.{Line}
 use Rattle.model.specs.declared.Line.the-variants.{Free}
-use Rattle.model.specs.declared.Record.{Record}
-use Rattle.model.specs.declared.Table.{Table}
-use Rattle.model.specs.Files.{File, limit, tableLines, TableFormed, wellFormed}
+use Rattle.model.specs.Files.{File, Table, limit, tableLines, TableFormed, wellFormed}
 use Rattle.text.specs.Files.{fileOf, tableOf}
 
-abbrev held : Line → Record
-held x = record { line = x }
-
-abbrev line : Record → Line
-line r = r .line
-
-lines-held : (xs : List Line) (rest : List Record) → map line (take (length xs) (map held xs ++ rest)) ≡ xs
+lines-held : (xs rest : List Line) → take (length xs) (xs ++ rest) ≡ xs
 lines-held [] rest = refl
 lines-held (x ∷ xs) rest = ap (λ (l : List Line). x ∷ l) (lines-held xs rest)
 
-free-past : (n i : ℕ) → getD (replicate n (held Free)) i (held Free) .line ≡ Free
+free-past : (n i : ℕ) → getD (replicate n Free) i Free ≡ Free
 free-past zero i = refl
 free-past (suc n) zero = refl
 free-past (suc n) (suc i) = free-past n i
 
-past-free : (xs : List Line) (n i : ℕ) → length xs ≤ i → getD (map held xs ++ replicate n (held Free)) i (held Free) .line ≡ Free
+past-free : (xs : List Line) (n i : ℕ) → length xs ≤ i → getD (xs ++ replicate n Free) i Free ≡ Free
 past-free [] n i h = free-past n i
 past-free (x ∷ xs) n zero h = absurd (omega arith)
 past-free (x ∷ xs) n (suc i) h = past-free xs n i (omega arith)
 
 pub file-table : (f : File) → fileOf (tableOf f) ≡ f
-file-table f = ap (λ (l : List Line). record { header = f .header; lines = l }) (lines-held (f .lines) (replicate (1792 - length (f .lines)) (held Free)))
+file-table f = ap (λ (l : List Line). record { header = f .header; lines = l }) (lines-held (f .lines) (replicate (1792 - length (f .lines)) Free))
 
 pub limit-most : (g : Grammar) → limit g ≤ 1792
 limit-most Circuit = omega arith
@@ -47,25 +39,25 @@ table-formed g f t few =
     record {
       few = le→leb (length (f .lines)) (limit g) few;
       room = let most = limit-most g in
-          length-append (map held (f .lines)) (replicate (1792 - length (f .lines)) (held Free))
-          ∙ (let lines = length-map (f .lines) held in let free = length-replicate (1792 - length (f .lines)) (held Free) in omega arith);
+          length-append (f .lines) (replicate (1792 - length (f .lines)) Free)
+          ∙ (let free = length-replicate (1792 - length (f .lines)) Free in omega arith);
       lines = subst (λ (k : File). T (wellFormed g (k .header) (k .lines))) (sym (file-table f)) t;
       rest = λ i h. past-free (f .lines) (1792 - length (f .lines)) i (leb→le (length (f .lines)) i h);
     }
 
-all-free : (l : List Record) → ((i : ℕ) → getD l i (held Free) .line ≡ Free) → l ≡ replicate (length l) (held Free)
+all-free : (l : List Line) → ((i : ℕ) → getD l i Free ≡ Free) → l ≡ replicate (length l) Free
 all-free [] h = refl
-all-free (r ∷ l) h = λ i. held (h 0 i) ∷ all-free l (λ i. h (suc i)) i
+all-free (x ∷ l) h = λ i. h 0 i ∷ all-free l (λ i. h (suc i)) i
 
-table-list : (n : ℕ) (l : List Record) → n ≤ length l → ((i : ℕ) → n ≤ i → getD l i (held Free) .line ≡ Free) → l ≡ map held (map line (take n l)) ++ replicate (length l - n) (held Free)
-table-list zero l few h = let all : length l ≡ length l - 0 = omega arith in all-free l (λ i. h i (omega arith)) ∙ ap (λ (k : ℕ). replicate k (held Free)) all
+table-list : (n : ℕ) (l : List Line) → n ≤ length l → ((i : ℕ) → n ≤ i → getD l i Free ≡ Free) → l ≡ take n l ++ replicate (length l - n) Free
+table-list zero l few h = let all : length l ≡ length l - 0 = omega arith in all-free l (λ i. h i (omega arith)) ∙ ap (λ (k : ℕ). replicate k Free) all
 table-list (suc n) [] few h = absurd (omega arith)
-table-list (suc n) (r ∷ l) few h =
+table-list (suc n) (x ∷ l) few h =
     let less : length l - n ≡ suc (length l) - suc n = omega arith in
-    ap (λ (k : List Record). r ∷ k) (table-list n l (omega arith) (λ i b. h (suc i) (omega arith)) ∙ ap (λ (k : ℕ). map held (map line (take n l)) ++ replicate k (held Free)) less)
+    ap (λ (k : List Line). x ∷ k) (table-list n l (omega arith) (λ i b. h (suc i) (omega arith)) ∙ ap (λ (k : ℕ). take n l ++ replicate k Free) less)
 
 pub count-length : (t : Table) → length (t .lines) ≡ 1792 → t .count ≤ 1792 → length (tableLines t) ≡ t .count
-count-length t room most = length-map (take (t .count) (t .lines)) line ∙ length-take-le (t .count) (t .lines) (omega arith)
+count-length t room most = length-take-le (t .count) (t .lines) (omega arith)
 
 pub table-length : (g : Grammar) (t : Table) → TableFormed g t → length (tableLines t) ≡ t .count
 table-length g t f =
@@ -80,8 +72,8 @@ table-file g t f =
     let whole = f .room in
     let size = table-length g t f in
     let left : length (t .lines) - t .count ≡ 1792 - length (tableLines t) = omega arith in
-    let list : t .lines ≡ map held (tableLines t) ++ replicate (1792 - length (tableLines t)) (held Free) =
-    table-list (t .count) (t .lines) (omega arith) (λ i b. f .rest i (le→leb (t .count) i b)) ∙ ap (λ (k : ℕ). map held (tableLines t) ++ replicate k (held Free)) left in
+    let list : t .lines ≡ tableLines t ++ replicate (1792 - length (tableLines t)) Free =
+    table-list (t .count) (t .lines) (omega arith) (λ i b. f .rest i (le→leb (t .count) i b)) ∙ ap (λ (k : ℕ). tableLines t ++ replicate k Free) left in
     λ i. record { header = t .header; lines = list i; count = sym size i }
 
 -- two tables that hold the same file are the same

@@ -7,8 +7,7 @@ use lib.Dec.{T, leb, leb→le, le→leb}
 use lib.ListN.{length}
 use Rattle.fields.specs.Pieces.{Bytes}
 use Rattle.model.specs.declared.Grammar.{Grammar}
-use Rattle.model.specs.declared.Table.{Table}
-use Rattle.model.specs.Files.{File, limit, tableLines, TableFormed}
+use Rattle.model.specs.Files.{Table, File, limit, tableLines, TableFormed}
 use Rattle.model.proofs.Tests.{and-first, and-second, and-both}
 use Rattle.text.specs.declared.Context.{Context}
 use Rattle.text.specs.Files.{read, keptCount, readText, fileOf, tableOf, RestFree, circuitContext, scheduleContext, eraseContext}

@@ -1,7 +1,7 @@
 -- Document 01, "The two files" and "Refused": what a whole text reads to.
 use Prim.Native.Nat.{ℕ, suc, _-_}
 use mathlib.Core.Bool.{Bool, true, cond, _&&_}
-use mathlib.Core.List.{List, [], _∷_, _++_, map}
+use mathlib.Core.List.{List, [], _∷_, _++_}
 use mathlib.Core.Path.{_≡_}
 use lib.Dec.{T, ltb, leb, eqb}
 use lib.ListN.{length, getD, replicate}
@@ -14,16 +14,13 @@ use Rattle.model.specs.declared.Grammar.the-variants.{Circuit, Schedule}
 use Rattle.model.specs.declared.Header.{Header}
 use Rattle.model.specs.declared.Line.{Line}
 use Rattle.model.specs.declared.Line.the-variants.{Free}
-use Rattle.model.specs.declared.Record.{Record}
-use Rattle.model.specs.declared.Table.{Table}
 use Rattle.model.specs.Scales.{headerInRange}
-use Rattle.model.specs.Files.{File, placeOf, isCircuitWord, tableLines, limit}
+use Rattle.model.specs.Files.{File, Table, placeOf, isCircuitWord, tableLines, limit}
 use Rattle.text.specs.declared.LineRead.{LineRead}
 use Rattle.text.specs.declared.LineRead.the-variants as Line·Read
 use Rattle.text.specs.declared.HeaderRead.{HeaderRead}
 use Rattle.text.specs.declared.HeaderRead.the-variants as Header·Read
 use Rattle.text.specs.declared.Context.{Context}
-use Rattle.text.specs.declared.FileRead.{FileRead}
 use Rattle.text.specs.Words.{headerWord, isKeptWord, wordNamed}
 use Rattle.text.specs.Lines.{readLine}
 
@@ -114,7 +111,7 @@ eraseContext = record { grammar = Schedule; limit = limit Schedule; kept = limit
 abbrev pub fewEnough : Context → List Line → Bool
 fewEnough c lines = leb (length lines) (c .limit) && leb (keptCount lines) (c .kept)
 
--- ---- the answer
+-- ---- tables
 -- the file that a table holds
 abbrev pub fileOf : Table → File
 fileOf t = record { header = t .header; lines = tableLines t }
@@ -122,14 +119,9 @@ fileOf t = record { header = t .header; lines = tableLines t }
 -- "a table of 1,792 line records, all free", with the file's lines in the first
 abbrev pub tableOf : File → Table
 tableOf f =
-    let lines : List Record = map (λ (x : Line). record { line = x }) (f .lines) in
-    record { header = f .header; lines = lines ++ replicate (1792 - length (f .lines)) (record { line = Free }); count = length (f .lines) }
+    record { header = f .header; lines = f .lines ++ replicate (1792 - length (f .lines)) Free; count = length (f .lines) }
 
--- a table whose records at and past the count are free
+-- a table of 1,792 records, of which those at and past the count are free
 pub record RestFree (t : Table) : Type 0 where
   pub room : length (t .lines) ≡ 1792
-  pub rest : (i : ℕ) → T (leb (t .count) i) → getD (t .lines) i (record { line = Free }) .line ≡ Free
-
--- what an answer says: a file where number and place are 0
-abbrev pub readingOf : FileRead → Reading
-readingOf r = cond (eqb (r .number) 0 && eqb (r .place) 0) (read (fileOf (r .table))) (refused (r .number) (r .place))
+  pub rest : (i : ℕ) → T (leb (t .count) i) → getD (t .lines) i Free ≡ Free

@@ -1,8 +1,7 @@
-// The types of the text layer: what reading a line and a file comes to. What they mean stands in specs/; reader and writer have the code.
+// The types of the text layer: what reading a line comes to. What they mean stands in specs/; reader and writer have the code.
 use model::Grammar;
 use model::Header;
 use model::Line;
-use model::Table;
 use model::Word;
 
 // A line by its form alone: its word and the numbers of its fields in their order, 0 where it has none. The amount of a rotation is `turn`.
@@ -37,11 +36,4 @@ pub struct Context {
     pub grammar: Grammar,
     pub limit: usize,
     pub kept: usize,
-}
-
-// What reading a file comes to: with number and place 0 the table, else a refusal, whose table means nothing.
-pub struct FileRead {
-    pub number: u32,
-    pub place: u32,
-    pub table: Table,
 }

@@ -6,7 +6,7 @@ use mathlib.Core.Path.{_≡_, refl, sym, ap, _∙_}
 use native.Mathlib.Omega.{arith}
 use lib.IntN.{ℤ, pos, negsuc, natAbs}
 use lib.ListN.{length}
-use mir.Syntax.{w32}
+use mir.Syntax.{w16}
 use mir.Val.{SFits}
 use mir.ValLaws.{toZ-ofZ}
 use Rattle.fields.specs.Pieces.{Bytes}
@@ -28,9 +28,9 @@ digits-within : (z : ℤ) → length (decimal (natAbs z)) ≤ length (amountText
 digits-within (pos m) = omega arith
 digits-within (negsuc m) = omega arith
 
-module _ (z : ℤ) (h : SFits w32 z) where
+module _ (z : ℤ) (h : SFits w16 z) where
   pub amount-held : amountText z ≡ amountText (held z)
-  amount-held = ap amountText (sym (toZ-ofZ w32 z h))
+  amount-held = ap amountText (sym (toZ-ofZ w16 z h))
 
   pub minus-room : (s : Bytes) (at : ℕ) (b : Bool) → at + length (amountText z) ≤ length s → b ≡ isNegative (held z) → b ≡ true → at < length s
   minus-room s at b l q p = omega (arith, ap length (minus-text (held z) (natAbs (held z)) b refl q p), ap length amount-held)

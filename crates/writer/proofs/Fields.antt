@@ -6,7 +6,7 @@ use mathlib.Core.Path.{_≡_, refl, sym, ap}
 use native.Mathlib.Omega.{arith}
 use lib.IntN.{ℤ}
 use lib.ListN.{length, length-append}
-use mir.Syntax.{w32}
+use mir.Syntax.{w16}
 use mir.Val.{SFits}
 use Rattle.fields.specs.Pieces.{Bytes, tab, lineFeed, join}
 use Rattle.fields.specs.Numbers.{decimal, amountText}
@@ -37,10 +37,10 @@ unfolding join
 three-more w a b c = simp append-assoc
 
 pub rot-more :
-    (w a : Bytes) (z : ℤ) → SFits w32 z → join tab (w ∷ a ∷ amountText z ∷ []) ≡ join tab (w ∷ a ∷ []) ++ (tab ∷ amountText (held z))
+    (w a : Bytes) (z : ℤ) → SFits w16 z → join tab (w ∷ a ∷ amountText z ∷ []) ≡ join tab (w ∷ a ∷ []) ++ (tab ∷ amountText (held z))
 rot-more w a z h = rw (← amount-held z h) (two-more w a (amountText z))
 
-pub amount-more : (z : ℤ) → SFits w32 z → tab ∷ amountText z ≡ (tab ∷ []) ++ amountText (held z)
+pub amount-more : (z : ℤ) → SFits w16 z → tab ∷ amountText z ≡ (tab ∷ []) ++ amountText (held z)
 amount-more z h = ap (λ (x : Bytes). tab ∷ x) (amount-held z h)
 
 pub one-goes-on : (w a : Bytes) → GoesOn w (join tab (w ∷ a ∷ []))
@@ -77,7 +77,7 @@ unfolding join
 in-fields l e = rw e
 
 pub rot-fields :
-    (l : Line) (a : ℕ) (z : ℤ) → l ≡ Rot a z → SFits w32 z →
+    (l : Line) (a : ℕ) (z : ℤ) → l ≡ Rot a z → SFits w16 z →
     join tab (fieldsOf l) ≡ join tab (wordText W.the-variants.Rot ∷ decimal a ∷ amountText (held z) ∷ [])
 rot-fields l a z e h = rw (e, ← amount-held z h)
 

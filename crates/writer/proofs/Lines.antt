@@ -1,6 +1,6 @@
 -- A table's lines one after another, and a whole file: its length and its text after the header and the first i lines. Assumes nothing.
 use Prim.Native.Nat.{ℕ, _+_, _*_, _≤_, _<_}
-use mathlib.Core.List.{List, [], _∷_, _++_, map, map-append, append-assoc, append-nil}
+use mathlib.Core.List.{List, [], _∷_, _++_, append-assoc, append-nil}
 use mathlib.Core.Path.{_≡_, refl, sym, ap, _∙_}
 use native.Mathlib.Nat.{zero-add}
 use native.Mathlib.Numerals.{add-one}
@@ -10,23 +10,20 @@ use lib.Seq.{take-suc, take-take}
 use Rattle.fields.specs.Pieces.{Bytes}
 use Rattle.model.specs.declared.Grammar.{Grammar}
 use Rattle.model.specs.declared.Line.{Line}
-use Rattle.model.specs.declared.Line.the-variants.{In}
-use Rattle.model.specs.declared.Record.{Record}
-use Rattle.model.specs.declared.Table.{Table}
+use Rattle.model.specs.declared.Header.{Header}
+use Rattle.model.specs.declared.Line.the-variants.{Free}
 use Rattle.text.specs.Write.{headerFieldsOf, fieldsText, lineText, linesText, fileText}
 use Rattle.text.specs.Files.{fileOf}
+use Rattle.tables.specs.Records.{lineOf, linesOf, held}
 use Rattle.writer.specs.Put.{Put, Written, Counted}
 use Rattle.writer.proofs.Puts.{put-both, put-nothing}
 
--- ---- the first i lines of a table
-abbrev lineOf : Record → Line
-lineOf r = r .line
+-- ---- the first i lines of the records
+abbrev lineAt : List (List ℕ) → ℕ → Line
+lineAt records i = getD (linesOf records) i Free
 
-abbrev lineAt : List Record → ℕ → Line
-lineAt records i = lineOf (getD records i (record { line = In }))
-
-abbrev textTo : List Record → ℕ → Bytes
-textTo records i = linesText (map lineOf (take i records))
+abbrev textTo : List (List ℕ) → ℕ → Bytes
+textTo records i = linesText (take i (linesOf records))
 
 no-text : linesText [] ≡ []
 unfolding linesText
@@ -42,39 +39,34 @@ both-texts [] ys = refl
 both-texts (x ∷ xs) ys = rw (both-texts xs ys, append-assoc)
 
 one-line-more :
-    (records : List Record) (i : ℕ) → i < length records → textTo records (i + 1) ≡ textTo records i ++ lineText (lineAt records i)
+    (records : List (List ℕ)) (i : ℕ) → i < length records → textTo records (i + 1) ≡ textTo records i ++ lineText (lineAt records i)
 one-line-more records i h =
-    let here : Record = getD records i (record { line = In }) in
-    rw (add-one i, take-suc records i (record { line = In }) h, map-append lineOf (take i records) (here ∷ []))
-    (both-texts (map lineOf (take i records)) (lineAt records i ∷ []) ∙ rw (one-text (lineAt records i)))
+    rw (add-one i, take-suc (linesOf records) i Free (omega (arith, length-map records lineOf)))
+    (both-texts (take i (linesOf records)) (lineAt records i ∷ []) ∙ rw (one-text (lineAt records i)))
 
 -- the first i lines are no longer than the first n
-text-within : (records : List Record) (i n : ℕ) → i ≤ n → length (textTo records i) ≤ length (textTo records n)
+text-within : (records : List (List ℕ)) (i n : ℕ) → i ≤ n → length (textTo records i) ≤ length (textTo records n)
 text-within records i n h =
-    let rest : List Record = drop i (take n records) in
-    let parts : take n records ≡ take i records ++ rest = sym (take-append-drop i (take n records)) ∙ rw (take-take i n records h) in
-    let texts : textTo records n ≡ textTo records i ++ linesText (map lineOf rest) =
-    ap (λ (l : List Record). linesText (map lineOf l)) parts
-    ∙ rw (map-append lineOf (take i records) rest) (both-texts (map lineOf (take i records)) (map lineOf rest)) in
-    omega (arith, ap length texts, length-append (textTo records i) (linesText (map lineOf rest)))
-
--- an array's length, which the checker knows of the machine's elements
-pub array-length : (X : Type 0) (f : Record → X) (records : List Record) (n : ℕ) → length (map f records) ≡ n → length records ≡ n
-array-length X f records n e = sym (length-map records f) ∙ e
+    let rest : List Line = drop i (take n (linesOf records)) in
+    let parts : take n (linesOf records) ≡ take i (linesOf records) ++ rest =
+    sym (take-append-drop i (take n (linesOf records))) ∙ rw (take-take i n (linesOf records) h) in
+    let texts : textTo records n ≡ textTo records i ++ linesText rest = ap linesText parts ∙ both-texts (take i (linesOf records)) rest in
+    omega (arith, ap length texts, length-append (textTo records i) (linesText rest))
 
 -- ---- a whole file
-abbrev headerOf : Grammar → Table → Bytes
-headerOf g t = fieldsText (headerFieldsOf g (t .header))
+abbrev headerOf : Grammar → Header → Bytes
+headerOf g h = fieldsText (headerFieldsOf g h)
 
-whole-text : (g : Grammar) (t : Table) → fileText g (fileOf t) ≡ headerOf g t ++ textTo (t .lines) (t .count)
-unfolding fileText
-whole-text g t = refl
+module _ (g : Grammar) (h : Header) (records : List (List ℕ)) (count : ℕ) where
+  whole-text : fileText g (fileOf (held h records count)) ≡ headerOf g h ++ textTo records count
+  unfolding fileText
+  whole-text = refl
 
-whole-length : (g : Grammar) (t : Table) → length (fileText g (fileOf t)) ≡ length (headerOf g t) + length (textTo (t .lines) (t .count))
-whole-length g t = ap length (whole-text g t) ∙ length-append (headerOf g t) (textTo (t .lines) (t .count))
+  whole-length : length (fileText g (fileOf (held h records count))) ≡ length (headerOf g h) + length (textTo records count)
+  whole-length = ap length whole-text ∙ length-append (headerOf g h) (textTo records count)
 
 -- ---- counting: `total` is `first`, the header's length, and the length of the first i lines
-pub record Counting (records : List Record) (count first total i : ℕ) : Type 0 where
+pub record Counting (records : List (List ℕ)) (count first total i : ℕ) : Type 0 where
   pub few : count ≤ 1792
   pub all : length records ≡ 1792
   pub most : i ≤ count
@@ -82,35 +74,35 @@ pub record Counting (records : List Record) (count first total i : ℕ) : Type 0
   pub bounded : total ≤ 72 + i * 72
 
 pub counting-start :
-    (records : List Record) (count first : ℕ) (header : Bytes) → count ≤ 1792 → length records ≡ 1792 → Counted header 72 first →
+    (records : List (List ℕ)) (count first : ℕ) (header : Bytes) → count ≤ 1792 → length records ≡ 1792 → Counted header 72 first →
     Counting records count first first 0
 counting-start records count first header few all c =
     record { few = few; all = all; most = omega arith; sum = omega (arith, ap length no-text); bounded = omega (arith, c .bounded) }
 
 pub counting-more :
-    (records : List Record) (count first total i r : ℕ) → Counting records count first total i → i < count →
-    Counted (lineText (lineAt records i)) 72 r → Counting records count first (total + r) (i + 1)
-counting-more records count first total i r c h line =
+    (records : List (List ℕ)) (count first total i r : ℕ) (x : Line) → Counting records count first total i → i < count → x ≡ lineAt records i →
+    Counted (lineText x) 72 r → Counting records count first (total + r) (i + 1)
+counting-more records count first total i r x c h here line =
     let more = one-line-more records i (omega (arith, c .few, c .all)) in
     record {
       few = c .few;
       all = c .all;
       most = omega arith;
-      sum = omega (arith, c .sum, line .counted, ap length more, length-append (textTo records i) (lineText (lineAt records i)));
+      sum = omega (arith, c .sum, line .counted, ap length more, ap (λ (y : Line). length (lineText y)) here, length-append (textTo records i) (lineText (lineAt records i)));
       bounded = omega (arith, c .bounded, line .bounded);
     }
 
 pub counting-done :
-    (g : Grammar) (t : Table) (first total i : ℕ) → Counting (t .lines) (t .count) first total i → t .count ≤ i →
-    Counted (headerOf g t) 72 first → Counted (fileText g (fileOf t)) 129096 total
-counting-done g t first total i c h header =
-    let all : i ≡ t .count = omega (arith, c .most) in
-    record { counted = omega (arith, rw all at (c .sum), header .counted, whole-length g t); bounded = omega (arith, c .bounded, c .few, c .most) }
+    (g : Grammar) (h : Header) (records : List (List ℕ)) (count first total i : ℕ) → Counting records count first total i → count ≤ i →
+    Counted (headerOf g h) 72 first → Counted (fileText g (fileOf (held h records count))) 129096 total
+counting-done g h records count first total i c l header =
+    let all : i ≡ count = omega (arith, c .most) in
+    record { counted = omega (arith, rw all at (c .sum), header .counted, whole-length g h records count); bounded = omega (arith, c .bounded, c .few, c .most) }
 
-pub ruleset countings = (counting-start, counting-more, counting-done, array-length)
+pub ruleset countings = (counting-start, counting-more, counting-done)
 
 -- ---- writing: s is the buffer after the header, which ends at `first`, and `out` after the first i lines
-pub record Writing (s : Bytes) (first : ℕ) (records : List Record) (count : ℕ) (out : Bytes) (at i : ℕ) : Type 0 where
+pub record Writing (s : Bytes) (first : ℕ) (records : List (List ℕ)) (count : ℕ) (out : Bytes) (at i : ℕ) : Type 0 where
   pub few : count ≤ 1792
   pub all : length records ≡ 1792
   pub room : first + length (textTo records count) ≤ length s
@@ -118,46 +110,50 @@ pub record Writing (s : Bytes) (first : ℕ) (records : List Record) (count : �
   pub same : length out ≡ length s
   pub put : Put s first (textTo records i) at out
 
-module _ (g : Grammar) (t : Table) (buffer : Bytes) (few : t .count ≤ 1792) (l : length (fileText g (fileOf t)) ≤ length buffer) where
-  pub header-room : 0 + length (headerOf g t) ≤ length buffer
-  header-room = omega (arith, whole-length g t)
+module _
+    (g : Grammar) (h : Header) (records : List (List ℕ)) (count : ℕ) (buffer : Bytes) (few : count ≤ 1792)
+    (l : length (fileText g (fileOf (held h records count))) ≤ length buffer) where
+  pub header-room : 0 + length (headerOf g h) ≤ length buffer
+  header-room = omega (arith, whole-length g h records count)
 
-  module _ (first : ℕ) (s : Bytes) (header : Put buffer 0 (headerOf g t) first s) (k : length s ≡ length buffer) where
-    pub writing-start : length (t .lines) ≡ 1792 → Writing s first (t .lines) (t .count) s first 0
+  module _ (first : ℕ) (s : Bytes) (header : Put buffer 0 (headerOf g h) first s) (k : length s ≡ length buffer) where
+    pub writing-start : length records ≡ 1792 → Writing s first records count s first 0
     writing-start all =
         record {
           few = few;
           all = all;
-          room = omega (arith, whole-length g t, header .place);
+          room = omega (arith, whole-length g h records count, header .place);
           most = omega arith;
           same = refl;
-          put = put-nothing s first (textTo (t .lines) 0) no-text;
+          put = put-nothing s first (textTo records 0) no-text;
         }
 
     pub writing-done :
-        (out : Bytes) (at i : ℕ) → Writing s first (t .lines) (t .count) out at i → t .count ≤ i → Written buffer (fileText g (fileOf t)) at out
-    writing-done out at i w h =
-        let all : i ≡ t .count = omega (arith, w .most) in
-        let text : Bytes = fileText g (fileOf t) in
+        (out : Bytes) (at i : ℕ) → Writing s first records count out at i → count ≤ i →
+        Written buffer (fileText g (fileOf (held h records count))) at out
+    writing-done out at i w end =
+        let all : i ≡ count = omega (arith, w .most) in
+        let text : Bytes = fileText g (fileOf (held h records count)) in
         let whole : Put buffer 0 text at out =
-        put-both buffer 0 (headerOf g t) (textTo (t .lines) (t .count)) text (omega arith) (whole-text g t) first s header at out
+        put-both buffer 0 (headerOf g h) (textTo records count) text (omega arith) (whole-text g h records count) first s header at out
         (rw all at (w .put)) in
         record { counted = omega (arith, whole .place); bytes = whole .bytes ∙ rw (zero-add (length text)) }
 
 module _
-    (s : Bytes) (first : ℕ) (records : List Record) (count : ℕ) (out : Bytes) (at i : ℕ) (w : Writing s first records count out at i) (h : i < count) where
-  more : textTo records (i + 1) ≡ textTo records i ++ lineText (lineAt records i)
-  more = one-line-more records i (omega (arith, w .few, w .all))
+    (s : Bytes) (first : ℕ) (records : List (List ℕ)) (count : ℕ) (out : Bytes) (at i : ℕ) (w : Writing s first records count out at i) (h : i < count) (x : Line)
+    (here : x ≡ lineAt records i) where
+  more : textTo records (i + 1) ≡ textTo records i ++ lineText x
+  more = one-line-more records i (omega (arith, w .few, w .all)) ∙ ap (λ (y : Line). textTo records i ++ lineText y) (sym here)
 
   fits : first + length (textTo records (i + 1)) ≤ length s
   fits = omega (arith, w .room, text-within records (i + 1) count (omega arith))
 
-  pub line-room : at + length (lineText (lineAt records i)) ≤ length out
+  pub line-room : at + length (lineText x) ≤ length out
   line-room =
-      omega (arith, fits, ap length more, length-append (textTo records i) (lineText (lineAt records i)), w .put .place, w .same)
+      omega (arith, fits, ap length more, length-append (textTo records i) (lineText x), w .put .place, w .same)
 
   pub writing-more :
-      (r : ℕ) (out1 : Bytes) → Put out at (lineText (lineAt records i)) r out1 → length out1 ≡ length out →
+      (r : ℕ) (out1 : Bytes) → Put out at (lineText x) r out1 → length out1 ≡ length out →
       Writing s first records count out1 r (i + 1)
   writing-more r out1 p k =
       record {
@@ -166,7 +162,7 @@ module _
         room = w .room;
         most = omega arith;
         same = k ∙ w .same;
-        put = put-both s first (textTo records i) (lineText (lineAt records i)) (textTo records (i + 1)) fits more at out (w .put) r out1 p;
+        put = put-both s first (textTo records i) (lineText x) (textTo records (i + 1)) fits more at out (w .put) r out1 p;
       }
 
-pub ruleset writings = (header-room, writing-start, writing-done, line-room, writing-more, array-length)
+pub ruleset writings = (header-room, writing-start, writing-done, line-room, writing-more)

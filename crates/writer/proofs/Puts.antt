@@ -71,9 +71,6 @@ module _ (s : Bytes) (at : ℕ) (x z : Bytes) (l : at + length z ≤ length s) (
   pub byte-room : (p : ℕ) (s1 : Bytes) → Put s at x p s1 → length s1 ≡ length s → p < length s1
   byte-room p s1 first k = omega (arith, g .longer, first .place)
 
-pub front-room : (s : Bytes) (at : ℕ) (z : Bytes) (b : ℕ) (y : Bytes) → at + length z ≤ length s → z ≡ b ∷ y → at < length s
-front-room s at z b y l e = omega (arith, ap length e)
-
 -- ---- a text under another name
 module _ (s : Bytes) (at : ℕ) (x z : Bytes) (e : z ≡ x) where
   pub same-room : at + length z ≤ length s → at + length x ≤ length s
@@ -82,4 +79,4 @@ module _ (s : Bytes) (at : ℕ) (x z : Bytes) (e : z ≡ x) where
   pub put-same : (r : ℕ) (s1 : Bytes) → Put s at x r s1 → Put s at z r s1
   put-same r s1 p = rw e p
 
-pub ruleset puts = (front-room, first-room, byte-room, next-room, same-room, put-both, put-same, put-nothing)
+pub ruleset puts = (first-room, byte-room, next-room, same-room, put-both, put-same, put-nothing)

@@ -1,5 +1,5 @@
 -- What writing a text into a buffer comes to, and how long a text is.
-use Prim.Native.Nat.{ℕ, _+_, _≤_}
+use Prim.Native.Nat.{ℕ, _+_, _%_, _≤_}
 use mathlib.Core.Bool.{Bool, true, false}
 use mathlib.Core.List.{_++_}
 use mathlib.Core.Path.{_≡_}
@@ -22,6 +22,10 @@ pub record Put (before : Bytes) (at : ℕ) (text : Bytes) (next : ℕ) (after : 
 pub record Counted (text : Bytes) (most count : ℕ) : Type 0 where
   pub counted : count ≡ length text
   pub bounded : count ≤ most
+
+-- the byte of a number's last digit
+abbrev pub lastDigit : ℕ → ℕ
+lastDigit n = 48 + n % 10
 
 -- whether a number is below 0
 abbrev pub isNegative : ℤ → Bool

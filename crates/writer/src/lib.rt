@@ -3,7 +3,6 @@
 use model::Grammar;
 use model::Header;
 use model::Line;
-use model::Table;
 ghost use mathlib.Core.Path.{_≡_};
 ghost use mathlib.Core.List.{[], _∷_};
 ghost use Prim.Native.Nat.{_+_, _≤_, _<_};
@@ -13,8 +12,9 @@ ghost use Rattle.fields.specs.Pieces.{tab, join};
 ghost use Rattle.fields.specs.Numbers.{decimal, amountText};
 ghost use Rattle.model.specs.Words.{ascii};
 ghost use Rattle.text.specs.Files.{fileOf};
+ghost use Rattle.tables.specs.Records.{held};
 ghost use Rattle.text.specs.Write.{fieldsOf, headerFieldsOf, fieldsText, lineText, fileText};
-ghost use Rattle.writer.specs.Put.{Put, Written, Counted, isNegative};
+ghost use Rattle.writer.specs.Put.{Put, Written, Counted, lastDigit, isNegative};
 
 // ---- bytes
 fn put_byte(out: &mut [u8], at: usize, byte: u8) -> usize
@@ -38,15 +38,33 @@ fn put_bytes(out: &mut [u8], at: usize, bytes: &[u8]) -> usize
 }
 
 // ---- numbers, in decimal digits
+// The last digit of n.
+fn put_digit(out: &mut [u8], at: usize, n: u32) -> usize
+    requires { ⌜ at < length (now out) ⌝ }
+    ensures { λ r. ⌜ Put (now (out .entry)) at (lastDigit n ∷ []) r (now (out .exit)) ⌝ }
+{
+    put_byte(out, at, b'0' + ((n % 10) as u8))
+}
+
+// Most numbers have one to three digits, which need no call for a tenth.
 fn put_number(out: &mut [u8], at: usize, n: u32) -> usize
     requires { ⌜ at + length (decimal n) ≤ length (now out) ⌝ }
     ensures { λ r. ⌜ Put (now (out .entry)) at (decimal n) r (now (out .exit)) ⌝ }
 {
     if n < 10 {
-        return put_byte(out, at, b'0' + (n as u8));
+        return put_digit(out, at, n);
+    }
+    if n < 100 {
+        let next = put_digit(out, at, n / 10);
+        return put_digit(out, next, n);
+    }
+    if n < 1000 {
+        let next = put_digit(out, at, n / 100);
+        let last = put_digit(out, next, n / 10);
+        return put_digit(out, last, n);
     }
     let next = put_number(out, at, n / 10);
-    put_byte(out, next, b'0' + ((n % 10) as u8))
+    put_digit(out, next, n)
 }
 
 fn number_len(n: u32) -> usize
@@ -58,13 +76,13 @@ fn number_len(n: u32) -> usize
     number_len(n / 10) + 1
 }
 
-fn is_negative(amount: i32) -> bool
+fn is_negative(amount: i16) -> bool
     ensures { λ r. ⌜ r ≡ isNegative amount ⌝ }
 {
     amount < 0
 }
 
-fn magnitude(amount: i32) -> u32
+fn magnitude(amount: i16) -> u32
     ensures { λ r. ⌜ r ≡ natAbs amount ⌝ }
 {
     if amount < 0 {
@@ -74,7 +92,7 @@ fn magnitude(amount: i32) -> u32
 }
 
 // A rotation amount: its digits, after a minus if it is below 0.
-fn put_amount(out: &mut [u8], at: usize, amount: i32) -> usize
+fn put_amount(out: &mut [u8], at: usize, amount: i16) -> usize
     requires { ⌜ at + length (amountText amount) ≤ length (now out) ⌝ }
     ensures { λ r. ⌜ Put (now (out .entry)) at (amountText amount) r (now (out .exit)) ⌝ }
 {
@@ -86,7 +104,7 @@ fn put_amount(out: &mut [u8], at: usize, amount: i32) -> usize
     put_number(out, at, n)
 }
 
-fn amount_len(amount: i32) -> usize
+fn amount_len(amount: i16) -> usize
     ensures { λ r. ⌜ Counted (amountText amount) 21 r ⌝ }
 {
     let digits = number_len(magnitude(amount));
@@ -105,7 +123,7 @@ fn put_number_field(out: &mut [u8], at: usize, n: u32) -> usize
     put_number(out, next, n)
 }
 
-fn put_amount_field(out: &mut [u8], at: usize, amount: i32) -> usize
+fn put_amount_field(out: &mut [u8], at: usize, amount: i16) -> usize
     requires { ⌜ at + length (tab ∷ amountText amount) ≤ length (now out) ⌝ }
     ensures { λ r. ⌜ Put (now (out .entry)) at (tab ∷ amountText amount) r (now (out .exit)) ⌝ }
 {
@@ -137,7 +155,7 @@ fn put_three(out: &mut [u8], at: usize, word: &[u8], a: u32, b: u32, c: u32) -> 
     put_number_field(out, next, c)
 }
 
-fn put_rot(out: &mut [u8], at: usize, word: &[u8], a: u32, amount: i32) -> usize
+fn put_rot(out: &mut [u8], at: usize, word: &[u8], a: u32, amount: i16) -> usize
     requires { ⌜ at + length (join tab (now word ∷ decimal a ∷ amountText amount ∷ [])) ≤ length (now out) ⌝ }
     ensures { λ r. ⌜ Put (now (out .entry)) at (join tab (now (word .entry) ∷ decimal a ∷ amountText amount ∷ [])) r (now (out .exit)) ⌝ }
 {
@@ -166,7 +184,7 @@ fn three_len(word: &[u8], a: u32, b: u32, c: u32) -> usize
     two_len(word, a, b) + 1 + number_len(c)
 }
 
-fn rot_len(word: &[u8], a: u32, amount: i32) -> usize
+fn rot_len(word: &[u8], a: u32, amount: i16) -> usize
     requires { ⌜ length (now word) ≤ 8 ⌝ }
     ensures { λ r. ⌜ Counted (join tab (now (word .entry) ∷ decimal a ∷ amountText amount ∷ [])) 51 r ⌝ }
 {
@@ -180,16 +198,23 @@ fn put_fields(out: &mut [u8], at: usize, line: Line) -> usize
 {
     match line {
         Line::In => put_bytes(out, at, b"in"),
-        Line::Const(k) => put_one(out, at, b"const", k),
-        Line::Neg(a) => put_one(out, at, b"neg", a),
-        Line::Rot(a, t) => put_rot(out, at, b"rot", a, t),
-        Line::Add(a, b) => put_two(out, at, b"add", a, b),
-        Line::Mul(a, b) => put_two(out, at, b"mul", a, b),
-        Line::Out(a) => put_one(out, at, b"out", a),
-        Line::Enc { of, scale, level } => put_three(out, at, b"enc", of, scale, level),
-        Line::Rs(a, c) => put_two(out, at, b"rs", a, c),
-        Line::Ms(a, c) => put_two(out, at, b"ms", a, c),
-        Line::Us(a, b) => put_two(out, at, b"us", a, b),
+        Line::Const(k) => put_one(out, at, b"const", k as u32),
+        Line::Neg(a) => put_one(out, at, b"neg", a as u32),
+        Line::Rot(a, t) => put_rot(out, at, b"rot", a as u32, t),
+        Line::Add(a, b) => put_two(out, at, b"add", a as u32, b as u32),
+        Line::Mul(a, b) => put_two(out, at, b"mul", a as u32, b as u32),
+        Line::Out(a) => put_one(out, at, b"out", a as u32),
+        Line::Enc { of, scale, level } => put_three(
+            out,
+            at,
+            b"enc",
+            of as u32,
+            scale as u32,
+            level as u32,
+        ),
+        Line::Rs(a, c) => put_two(out, at, b"rs", a as u32, c as u32),
+        Line::Ms(a, c) => put_two(out, at, b"ms", a as u32, c as u32),
+        Line::Us(a, b) => put_two(out, at, b"us", a as u32, b as u32),
         Line::Free => at,
     }
 }
@@ -199,16 +224,16 @@ fn fields_len(line: Line) -> usize
 {
     match line {
         Line::In => 2,
-        Line::Const(k) => one_len(b"const", k),
-        Line::Neg(a) => one_len(b"neg", a),
-        Line::Rot(a, t) => rot_len(b"rot", a, t),
-        Line::Add(a, b) => two_len(b"add", a, b),
-        Line::Mul(a, b) => two_len(b"mul", a, b),
-        Line::Out(a) => one_len(b"out", a),
-        Line::Enc { of, scale, level } => three_len(b"enc", of, scale, level),
-        Line::Rs(a, c) => two_len(b"rs", a, c),
-        Line::Ms(a, c) => two_len(b"ms", a, c),
-        Line::Us(a, b) => two_len(b"us", a, b),
+        Line::Const(k) => one_len(b"const", k as u32),
+        Line::Neg(a) => one_len(b"neg", a as u32),
+        Line::Rot(a, t) => rot_len(b"rot", a as u32, t),
+        Line::Add(a, b) => two_len(b"add", a as u32, b as u32),
+        Line::Mul(a, b) => two_len(b"mul", a as u32, b as u32),
+        Line::Out(a) => one_len(b"out", a as u32),
+        Line::Enc { of, scale, level } => three_len(b"enc", of as u32, scale as u32, level),
+        Line::Rs(a, c) => two_len(b"rs", a as u32, c as u32),
+        Line::Ms(a, c) => two_len(b"ms", a as u32, c as u32),
+        Line::Us(a, b) => two_len(b"us", a as u32, b as u32),
         Line::Free => 0,
     }
 }
@@ -286,17 +311,15 @@ pub fn put_refused(out: &mut [u8], at: usize, number: u32, place: u32) -> usize
 
 // ---- the file
 // How long the text is: at most 72 bytes for each of 1,793 lines.
-pub fn file_len(grammar: Grammar, t: Table) -> usize
-    requires { ⌜ t .count ≤ 1792 ⌝ }
-    ensures { λ r. ⌜ Counted (fileText grammar (fileOf t)) 129096 r ⌝ }
+pub fn file_len(grammar: Grammar, header: Header, records: &[[u16; 4]], count: usize) -> usize
+    requires { ⌜ length (now records) ≡ 1792 ⌝ }
+    requires { ⌜ count ≤ 1792 ⌝ }
+    ensures { λ r. ⌜ Counted (fileText grammar (fileOf (held header (now (records .entry)) count))) 129096 r ⌝ }
 {
-    let header = t.header;
-    let count = t.count;
     let mut total = header_len(grammar, header);
     let mut i: usize = 0;
     while i < count {
-        let record = t.lines[i];
-        let line = record.line;
+        let line = tables::line_at(records, i);
         total += line_len(line);
         i += 1;
     }
@@ -304,17 +327,22 @@ pub fn file_len(grammar: Grammar, t: Table) -> usize
 }
 
 // Writes the text at the front of the buffer, of which nothing else changes, and returns its length.
-pub fn put_file(out: &mut [u8], grammar: Grammar, t: Table) -> usize
-    requires { ⌜ (t .count ≤ 1792) × (length (fileText grammar (fileOf t)) ≤ length (now out)) ⌝ }
-    ensures { λ r. ⌜ Written (now (out .entry)) (fileText grammar (fileOf t)) r (now (out .exit)) ⌝ }
+pub fn put_file(
+    out: &mut [u8],
+    grammar: Grammar,
+    header: Header,
+    records: &[[u16; 4]],
+    count: usize,
+) -> usize
+    requires { ⌜ length (now records) ≡ 1792 ⌝ }
+    requires { ⌜ count ≤ 1792 ⌝ }
+    requires { ⌜ length (fileText grammar (fileOf (held header (now records) count))) ≤ length (now out) ⌝ }
+    ensures { λ r. ⌜ Written (now (out .entry)) (fileText grammar (fileOf (held header (now (records .entry)) count))) r (now (out .exit)) ⌝ }
 {
-    let header = t.header;
-    let count = t.count;
     let mut at = put_header(out, 0, grammar, header);
     let mut i: usize = 0;
     while i < count {
-        let record = t.lines[i];
-        let line = record.line;
+        let line = tables::line_at(records, i);
         at = put_line(out, at, line);
         i += 1;
     }

@@ -44,19 +44,16 @@ fn by_rust(call: &Call, out: &mut [u8]) -> Reply {
     }
 }
 
-/// The shortest of several runs of so many calls each: other work on the machine only adds.
-fn shortest(runs: usize, calls: usize, mut call: impl FnMut() -> Reply) -> f64 {
-    let mut best = f64::MAX;
-    for _ in 0..runs {
-        let start = Instant::now();
-        for _ in 0..calls {
-            black_box(call());
-        }
-        best = best.min(start.elapsed().as_nanos() as f64 / calls as f64);
+/// The time of one call, over so many calls.
+fn time_of(calls: usize, mut call: impl FnMut() -> Reply) -> f64 {
+    let start = Instant::now();
+    for _ in 0..calls {
+        black_box(call());
     }
-    best
+    start.elapsed().as_nanos() as f64 / calls as f64
 }
 
+/// The shortest of several runs, of both in turn: other work on the machine only adds, and it meets both alike.
 fn measure(call: &Call, input: &str, lines: usize, runs: usize, calls: usize) -> Row {
     let mut first = Lent::new(&[], &call.first, &[], false);
     let mut second = Lent::new(&[], &call.second, &[], false);
@@ -65,8 +62,11 @@ fn measure(call: &Call, input: &str, lines: usize, runs: usize, calls: usize) ->
     let replied = archive::call(call.service, &mut first, &mut second, &mut lent);
     assert_eq!(replied, by_rust(call, &mut out), "{} of {input}", call.name);
     assert!(lent.bytes() == &out[..], "the bytes of {} of {input}", call.name);
-    let archive = shortest(runs, calls, || archive::call(call.service, &mut first, &mut second, &mut lent));
-    let rust = shortest(runs, calls, || by_rust(call, &mut out));
+    let (mut archive, mut rust) = (f64::MAX, f64::MAX);
+    for _ in 0..runs {
+        archive = archive.min(time_of(calls, || archive::call(call.service, &mut first, &mut second, &mut lent)));
+        rust = rust.min(time_of(calls, || by_rust(call, &mut out)));
+    }
     Row { service: call.name, input: input.to_string(), lines, archive, rust }
 }
 
@@ -142,7 +142,7 @@ fn main() {
         println!("bench: {} calls, all replies the same", rows(&folder, 1, 3).len());
         return;
     }
-    let rows = rows(&folder, 9, 400);
+    let rows = rows(&folder, 40, 100);
     print_table(&rows);
     if let [option, file] = &words[..] {
         assert_eq!(option, "--svg", "bench [--smoke | --svg FILE]");

@@ -35,12 +35,14 @@ pub struct Both {
     pub calls: u64,
     /// How often each number was replied.
     pub numbers: [u64; 14],
+    /// Exhaustive searches that came to an answer, and those that gave up.
+    pub searches: [u64; 2],
 }
 
 impl Both {
     /// `show` prints every call and both replies.
     pub fn new(random: Random, show: bool) -> Both {
-        Both { random, show, calls: 0, numbers: [0; 14] }
+        Both { random, show, calls: 0, numbers: [0; 14], searches: [0; 2] }
     }
 
     pub fn plan(&mut self, circuit: &[u8], room: usize) -> Result<Outcome, String> {

@@ -7,11 +7,15 @@ pub check-spec : {M : Type 1} → statement M
 check-spec =
     tie.close
     (tie.spec
-    (λ c κs. search steps)
-    (λ c κs. search steps)
     (λ c. search steps)
     (λ c κs. search steps)
     (λ c κs. search steps)
+    (λ c. search steps)
+    (λ c. search steps)
+    (λ c κs. search steps)
+    (λ c κs. search steps)
+    (λ c. search steps)
+    (λ c. search steps)
     (λ c. search steps)
     (λ c κs. search steps)
     (λ c κs. search steps)

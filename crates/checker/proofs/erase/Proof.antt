@@ -7,10 +7,14 @@ pub erase-spec : {M : Type 1} → statement M
 erase-spec =
     tie.close
     (tie.spec
+    (λ c. search steps)
     (λ c κs. search steps)
     (λ c κs. search steps)
     (λ c. search steps)
+    (λ c. search steps)
+    (λ c. search steps)
     (λ c κs. search steps)
+    (λ c. search steps)
     (λ c κs. search steps)
     (λ c. search steps)
     (λ c. search steps))

@@ -6,10 +6,10 @@ use Rattle.erasing.proofs.compare.Statement.{statement}
 use Rattle.erasing.proofs.compare.Tie as tie
 
 abbrev Inv-loop : tie.InvT-loop
-Inv-loop circuit erasure count other-count shorter i₀ i = Comparing circuit erasure shorter i
+Inv-loop circuit size erasure count shorter i₀ i = Comparing circuit size erasure count shorter i
 
 abbrev μ-loop : tie.MeasureT-loop
-μ-loop circuit erasure count other-count shorter i₀ i = shorter - i
+μ-loop circuit size erasure count shorter i₀ i = shorter - i
 
 pub compare-spec : {M : Type 1} → statement M
 compare-spec =
@@ -21,10 +21,8 @@ compare-spec =
     (λ c. search compare-laws)
     (λ c κs. search needs)
     (λ c. search compare-laws)
-    (λ c. search needs)
-    (λ c. search needs)
-    (λ c. search needs)
-    (λ c. search needs)
+    (λ c κs. search compare-laws)
+    (λ c κs. search compare-laws)
     (λ c κs. search needs)
     (λ c κs. search needs)
     (λ c. search compare-laws)

@@ -7,10 +7,10 @@ use Rattle.erasing.proofs.erase_table.Statement.{statement}
 use Rattle.erasing.proofs.erase_table.Tie as tie
 
 abbrev Inv-loop : tie.InvT-loop
-Inv-loop schedule count table₀ origins₀ i₀ table origins i = Filling schedule table origins i
+Inv-loop schedule count erasure₀ origins₀ at₀ i₀ erasure origins at i = Filling schedule count erasure origins at i
 
 abbrev μ-loop : tie.MeasureT-loop
-μ-loop schedule count table₀ origins₀ i₀ table origins i = count - i
+μ-loop schedule count erasure₀ origins₀ at₀ i₀ erasure origins at i = count - i
 
 pub erase-table-spec : {M : Type 1} → statement M
 erase-table-spec =
@@ -19,14 +19,14 @@ erase-table-spec =
     Inv-loop
     μ-loop
     (λ c. search filling-laws)
-    (λ c. search needs)
-    (λ c. search needs)
+    (λ c κs. search filling-laws)
     (λ c. search needs)
     (λ c κs. search needs)
     (λ c. search needs)
     (λ c. search needs)
     (λ c. search filling-laws)
     (λ c κs. search needs)
+    (λ c κs. search filling-laws)
     (λ c. search needs)
     (λ c. search needs)
     (λ c. search needs)
@@ -41,4 +41,5 @@ erase-table-spec =
     (λ c. search needs)
     (λ c. search needs)
     (λ c. ⊎-elim (λ w. search after-kept) (λ w. search after-struck) (c .match .came))
-    (λ c. (search filling-laws, (search needs, search needs))))
+    (λ c. search filling-laws)
+    (λ c. (search filling-laws, search filling-laws)))

@@ -7,8 +7,10 @@ pub least-level-spec : {M : Type 1} → statement M
 least-level-spec =
     tie.close
     (tie.spec
+    (λ c. search steps)
     (λ c κs. search steps)
     (λ c κs. search steps)
+    (λ c. search steps)
     (λ c. search steps)
     (λ c κs. search steps)
     (λ c κs. search steps)

@@ -7,14 +7,19 @@ pub plan-spec : {M : Type 1} → statement M
 plan-spec =
     tie.close
     (tie.spec
+    (λ c. search steps)
     (λ c κs. search steps)
     (λ c κs. search steps)
+    (λ c. search steps)
     (λ c. search steps)
     (λ c κs. search steps)
     (λ c. search steps)
     (λ c κs. search steps)
     (λ c. search steps)
+    (λ c. search steps)
+    (λ c. search steps)
     (λ c κs. search steps)
+    (λ c. search steps)
     (λ c κs. search steps)
     (λ c. search steps)
     (λ c. search steps))

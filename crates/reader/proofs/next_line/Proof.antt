@@ -17,7 +17,7 @@ use Rattle.text.specs.declared.Context.{Context}
 use Rattle.text.specs.declared.LineRead.{LineRead}
 use Rattle.text.specs.declared.LineRead.the-variants.{Bad}
 use Rattle.text.specs.Lines.{readLine}
-use Rattle.text.specs.Files.{keptCount}
+use Rattle.text.specs.Files.{keptCount, beginsKept}
 use Rattle.lines.specs.Kinds.{codeOf, codes}
 use Rattle.reader.specs.Reads.{pastLimits, nextLine}
 use Rattle.reader.proofs.Slices.{front-length}
@@ -28,8 +28,8 @@ piece-length : (end : ℕ) (text : Bytes) → end ≡ before lineFeed text → e
 piece-length end text found = front-length end text (omega (arith, before-within lineFeed text))
 
 module _
-    (c : Context) (h : Header) (kinds : List ℕ) (kept : ℕ) (text : Bytes) (end : ℕ) (found : end ≡ before lineFeed text) (over : Bool)
-    (tested : over ≡ pastLimits c (length kinds) kept (take end text)) where
+    (c : Context) (h : Header) (kinds : List ℕ) (kept : ℕ) (text : Bytes) (end : ℕ) (found : end ≡ before lineFeed text)
+    (begins : Bool) (first : begins ≡ beginsKept (take end text)) (over : Bool) (tested : over ≡ pastLimits c (length kinds) kept begins) where
   -- what the definition says, in the code's terms
   definition :
       (done : List Line) → codes done ≡ kinds → kept ≡ keptCount done →
@@ -38,7 +38,7 @@ module _
   unfolding nextLine pastLimits
   definition done coded counted =
       let same : length kinds ≡ length done = ap length (sym coded) ∙ length-map done (λ (x : Line). codeOf (kindOf x)) in
-      rw (tested, same, counted, found)
+      rw (tested, first, same, counted, found)
 
   too-many : over ≡ true → (done : List Line) → codes done ≡ kinds → kept ≡ keptCount done → Bad 3 (length kinds + 2) ≡ nextLine c h done text
   too-many e done coded counted = rw (definition done coded counted, e)
@@ -65,11 +65,12 @@ next-line-spec =
     (λ c. search laws)
     (λ c. search piece-length)
     (λ c κs. search laws)
+    (λ c κs. search laws)
     (λ c. search laws)
-    (λ c. let a = c .before .before .before .before .before .before .args in
+    (λ c. let a = c .before .before .before .before .before .before .before .args in
     let last : length (a .rest .now) ≤ a .end = omega arith in
     search laws)
-    (λ c κs. search laws)
-    (λ c. let a = c .before .before .before .before .before .before .before .args in
+    (λ c κs. (search laws, (search laws, (search laws, (search laws, search laws)))))
+    (λ c. let a = c .before .before .before .before .before .before .before .before .args in
     let inside : a .end < length (a .rest .now) = omega (arith, before-within lineFeed (a .rest .now)) in
     search laws))

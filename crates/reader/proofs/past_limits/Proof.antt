@@ -5,9 +5,7 @@ use mathlib.Core.Path.{_≡_, refl, _∙_}
 use mathlib.Core.Bool.{Bool, true, false, _&&_}
 use borrow.Author.Needs.{needs}
 use borrow.Author.Tests.{lt-ltb, le-ltb, le-leb, lt-leb}
-use Rattle.fields.specs.Pieces.{Bytes}
 use Rattle.text.specs.declared.Context.{Context}
-use Rattle.text.specs.Files.{beginsKept}
 use Rattle.reader.specs.Reads.{pastLimits}
 use Rattle.reader.proofs.past_limits.Statement.{statement}
 use Rattle.reader.proofs.past_limits.Tie as tie
@@ -20,18 +18,18 @@ and-false : (b : Bool) → false ≡ b && false
 and-false true = refl
 and-false false = refl
 
-module _ (c : Context) (count kept : ℕ) (bytes : Bytes) where
-  over : c .limit ≤ count → true ≡ pastLimits c count kept bytes
+module _ (c : Context) (count kept : ℕ) (begins : Bool) where
+  over : c .limit ≤ count → true ≡ pastLimits c count kept begins
   unfolding pastLimits
   over h = rw (le-ltb count (c .limit) h)
 
-  few-kept : count < c .limit → kept < c .kept → false ≡ pastLimits c count kept bytes
+  few-kept : count < c .limit → kept < c .kept → false ≡ pastLimits c count kept begins
   unfolding pastLimits
-  few-kept h k = rw (lt-ltb count (c .limit) h, lt-leb (c .kept) kept k) (and-false (beginsKept bytes))
+  few-kept h k = rw (lt-ltb count (c .limit) h, lt-leb (c .kept) kept k) (and-false begins)
 
-  by-word : (r : Bool) → count < c .limit → c .kept ≤ kept → r ≡ beginsKept bytes → r ≡ pastLimits c count kept bytes
+  by-word : (r : Bool) → count < c .limit → c .kept ≤ kept → r ≡ begins → r ≡ pastLimits c count kept begins
   unfolding pastLimits
-  by-word r h k e = rw (lt-ltb count (c .limit) h, le-leb (c .kept) kept k) (e ∙ and-true (beginsKept bytes))
+  by-word r h k e = rw (lt-ltb count (c .limit) h, le-leb (c .kept) kept k) (e ∙ and-true begins)
 
 pub past-limits-spec : {M : Type 1} → statement M
 past-limits-spec =

@@ -1,15 +1,16 @@
 -- `reserves::best_lines` meets its contract. The loop's invariant is `Walking`; the measure is how many lines are left. Assumes nothing.
 use Prim.Native.Nat.{_-_}
 use borrow.Author.Needs.{needs}
-use Rattle.reserves.proofs.Walk.{Walking, walk, walk-stopped, walk-more}
+use Rattle.tables.specs.Records.{held}
+use Rattle.reserves.proofs.Walk.{Walking, walk, walk-stopped, walk-more, walk-finished}
 use Rattle.reserves.proofs.best_lines.Statement.{statement}
 use Rattle.reserves.proofs.best_lines.Tie as tie
 
 abbrev Inv-loop : tie.InvT-loop
-Inv-loop circuit header count known₀ i₀ known i = Walking header circuit known i
+Inv-loop header circuit count known₀ i₀ known i = Walking header (held header circuit count) known i
 
 abbrev μ-loop : tie.MeasureT-loop
-μ-loop circuit header count known₀ i₀ known i = count - i
+μ-loop header circuit count known₀ i₀ known i = count - i
 
 pub best-lines-spec : {M : Type 1} → statement M
 best-lines-spec =
@@ -18,8 +19,7 @@ best-lines-spec =
     Inv-loop
     μ-loop
     (λ c. search walk)
-    (λ c. search walk)
-    (λ c. search walk)
+    (λ c κs. search walk)
     (λ c κs. search walk)
     (λ c κs. search walk)
     (λ c. search walk)
@@ -32,8 +32,9 @@ best-lines-spec =
     (λ c.
     let done = c .before .before .before in
     let places = done .before .before .before in
-    let turn = places .before .before .before in (
-      walk-stopped (turn .before .loop .inv) (turn .loop-test .taken) _ _ (places .before .first-place .ensures) (places .second-place .ensures)
+    let read = places .before .before in
+    let turn = read .before in (
+      walk-stopped (turn .before .loop .inv) (turn .loop-test .taken) _ (read .line-at .ensures .0) _ _ (places .before .first-place .ensures) (places .second-place .ensures)
           _ (done .best-after .ensures) _ (c .before .number .given .1),
       search needs,
     ))
@@ -45,7 +46,8 @@ best-lines-spec =
     (λ c.
     let done = c .before .before .before in
     let places = done .before .before .before in
-    let turn = places .before .before .before in
-    walk-more (turn .before .loop .inv) (turn .loop-test .taken) _ _ (places .before .first-place .ensures) (places .second-place .ensures)
+    let read = places .before .before in
+    let turn = read .before in
+    walk-more (turn .before .loop .inv) (turn .loop-test .taken) _ (read .line-at .ensures .0) _ _ (places .before .first-place .ensures) (places .second-place .ensures)
     _ (done .best-after .ensures) _ (c .before .best .given .1))
-    (λ c. search walk))
+    (λ c. (walk-finished (c .before .loop .inv) (c .loop-test .left), search walk)))

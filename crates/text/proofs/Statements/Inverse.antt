@@ -5,8 +5,7 @@ use Prim.Native.Nat.{_≤_}
 use mathlib.Core.Path.{_≡_}
 use lib.Dec.{T, leb}
 use Rattle.fields.specs.Pieces.{Bytes}
-use Rattle.model.specs.declared.Table.{Table}
-use Rattle.model.specs.Files.{File, tableLines, TableFormed}
+use Rattle.model.specs.Files.{Table, File, tableLines, TableFormed}
 use Rattle.text.specs.declared.Context.{Context}
 use Rattle.text.specs.Files.{read, keptCount, readText, fileOf, RestFree, circuitContext, scheduleContext, eraseContext}
 use Rattle.text.specs.Write.{fileText}

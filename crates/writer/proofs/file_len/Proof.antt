@@ -6,10 +6,10 @@ use Rattle.writer.proofs.file_len.Statement.{statement}
 use Rattle.writer.proofs.file_len.Tie as tie
 
 abbrev Inv-loop : tie.InvT-loop
-Inv-loop t count total₀ i₀ total i = Counting (t .lines) count total₀ total i
+Inv-loop records count total₀ i₀ total i = Counting records count total₀ total i
 
 abbrev μ-loop : tie.MeasureT-loop
-μ-loop t count total₀ i₀ total i = count - i
+μ-loop records count total₀ i₀ total i = count - i
 
 pub file-len-spec : {M : Type 1} → statement M
 file-len-spec =
@@ -17,13 +17,12 @@ file-len-spec =
     (tie.spec
     Inv-loop
     μ-loop
-    (λ c κs. search needs)
-    (λ c. search countings)
-    (λ c. search needs)
-    (λ c. search needs)
-    (λ c κs. search needs)
-    (λ c. search needs)
-    (λ c. search needs)
-    (λ c. search needs)
-    (λ c. search countings)
-    (λ c. search countings))
+    (λ c κs. search (needs, countings))
+    (λ c. search (needs, countings))
+    (λ c κs. search (needs, countings))
+    (λ c κs. search (needs, countings))
+    (λ c. search (needs, countings))
+    (λ c. search (needs, countings))
+    (λ c. search (needs, countings))
+    (λ c. search (needs, countings))
+    (λ c. search (needs, countings)))

@@ -13,6 +13,8 @@ const USAGE: &str = "usage: compare [--cases N] [--seed S] [--case K]";
 const THREADS: usize = 2;
 /// Cases that a thread takes at a time.
 const BLOCK: u64 = 100;
+/// No more than one search in so many may give up.
+const MOST_GIVEN_UP: u64 = 20;
 const PROGRESS: Duration = Duration::from_secs(5);
 
 struct Options {
@@ -36,12 +38,13 @@ fn options() -> Option<Options> {
     Some(options)
 }
 
-/// What is counted for a kind: cases, calls, and how often each number was replied.
+/// What is counted for a kind: cases, calls, how often each number was replied, and the searches that came to an answer and that gave up.
 #[derive(Clone, Copy, Default)]
 struct Count {
     cases: u64,
     calls: u64,
     numbers: [u64; 14],
+    searches: [u64; 2],
 }
 
 impl Count {
@@ -50,6 +53,9 @@ impl Count {
         self.calls += other.calls;
         for (sum, number) in self.numbers.iter_mut().zip(other.numbers) {
             *sum += number;
+        }
+        for (sum, searches) in self.searches.iter_mut().zip(other.searches) {
+            *sum += searches;
         }
     }
 }
@@ -82,7 +88,7 @@ fn run_case(seed: u64, case: u64, show: bool) -> (Result<(), String>, Count) {
     // Guard bytes have a generator of their own: they do not move the case.
     let mut both = Both::new(Random::new(!seed, case), show);
     let result = run(case, &mut random, &mut both);
-    (result, Count { cases: 1, calls: both.calls, numbers: both.numbers })
+    (result, Count { cases: 1, calls: both.calls, numbers: both.numbers, searches: both.searches })
 }
 
 fn run_one(seed: u64, case: u64) -> ExitCode {
@@ -136,10 +142,7 @@ fn run_all(options: Options) -> ExitCode {
             print_difference(shared.options.seed, case, &difference);
             ExitCode::FAILURE
         }
-        None => {
-            print_counts(&counts);
-            ExitCode::SUCCESS
-        }
+        None => print_counts(&counts),
     }
 }
 
@@ -169,13 +172,20 @@ fn work(shared: &Shared) -> Counts {
     counts
 }
 
-fn print_counts(counts: &Counts) {
-    let mut cases = 0;
+fn print_counts(counts: &Counts) -> ExitCode {
+    let mut all = Count::default();
     for (kind, count) in KINDS.iter().zip(counts) {
         let replied = count.numbers.iter().enumerate().filter(|&(_, &times)| times > 0);
         let replied: Vec<String> = replied.map(|(number, times)| format!("{number}:{times}")).collect();
         println!("{:<27} {:>7} cases {:>8} calls, replies {}", kind.name(), count.cases, count.calls, replied.join(" "));
-        cases += count.cases;
+        all.add(count);
     }
-    println!("compare: {cases} cases, no difference");
+    let [answered, given_up] = all.searches;
+    println!("exhaustive searches: {answered} came to an answer, {given_up} gave up");
+    if given_up * MOST_GIVEN_UP > answered + given_up {
+        println!("compare: too many searches gave up");
+        return ExitCode::FAILURE;
+    }
+    println!("compare: {} cases, {} calls, no difference", all.cases, all.calls);
+    ExitCode::SUCCESS
 }

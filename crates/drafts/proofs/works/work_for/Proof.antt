@@ -12,6 +12,8 @@ work-for-spec =
     (λ c. search work-laws)
     (λ c. search work-laws)
     (λ c. search work-laws)
+    (λ c. search work-laws)
+    (λ c. search work-laws)
     (λ c κs. search work-laws)
     (λ c. search work-laws)
     (λ c. search work-laws)

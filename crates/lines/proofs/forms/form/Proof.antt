@@ -9,9 +9,6 @@ form-spec =
     (tie.spec
     (λ c κs. search cut-laws)
     (λ c. search cut-laws)
-    (λ c κs. search cut-laws)
-    (λ c κs. search cut-laws)
-    (λ c. search cut-laws)
     (λ c. search cut-laws)
     (λ c. search cut-laws)
     (λ c. search cut-laws)

@@ -1,5 +1,4 @@
 -- `lines::judging::judge` meets its contract: one law for each return, its premises the tests on the way. Assumes nothing.
-use native.Mathlib.Omega.{arith}
 use borrow.Author.Tests.{not-false}
 use Rattle.lines.proofs.JudgeLaws.{verdicts, fits, numbers-small}
 use Rattle.lines.proofs.judging.judge.Statement.{statement}
@@ -29,9 +28,9 @@ judge-spec =
     let start = else1 .before .before .before in
     let a = start .args in
     numbers-small (a .context) (a .header) (a .shape) (a .before .now) _ (else1 .before .in-range .ensures) (not-false _ (else1 .if1 .left))
-    _ _ (first .kind-at .ensures) (second .kind-at2 .ensures) _ (operands .operands-of .ensures) _ (else2 .before .usable .ensures)
+    _ _ (first .kind-at .ensures) _ (operands .operands-of .ensures) (second .second-kind .ensures) _ (else2 .before .usable .ensures)
     (not-false _ (else2 .if2 .left))
-    (start .pre .1) (start .pre .0) (record { fits = omega (arith, start .good .1 .0) }))
+    (start .pre .1 .1) (start .pre .1 .0) (start .pre .0))
     (λ c.
     let else3 = c .before in
     let else2 = else3 .before .before in
@@ -42,6 +41,6 @@ judge-spec =
     let start = else1 .before .before .before in
     let a = start .args in
     fits (a .context) (a .header) (a .shape) (a .before .now) _ (else1 .before .in-range .ensures) (not-false _ (else1 .if1 .left))
-    _ _ (first .kind-at .ensures) (second .kind-at2 .ensures) _ (operands .operands-of .ensures) _ (else2 .before .usable .ensures)
+    _ _ (first .kind-at .ensures) _ (operands .operands-of .ensures) (second .second-kind .ensures) _ (else2 .before .usable .ensures)
     (not-false _ (else2 .if2 .left))
     _ (else3 .before .kinds-fit .ensures) (not-false _ (else3 .if3 .left)) _ (c .line-of .ensures)))

@@ -1,4 +1,4 @@
--- `lines::judging::line_of` meets its contract: small numbers are the same in 32 bits. Assumes nothing.
+-- `lines::judging::line_of` meets its contract: small numbers are the same in 16 bits. Assumes nothing.
 use Rattle.lines.proofs.JudgeLaws.{judge-laws}
 use Rattle.lines.proofs.judging.line_of.Statement.{statement}
 use Rattle.lines.proofs.judging.line_of.Tie as tie
