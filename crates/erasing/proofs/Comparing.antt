@@ -10,7 +10,6 @@ use borrow.Author.Needs.{needs}
 use borrow.Author.Tests.{not-true, not-false}
 use lib.ListN.{length, getD, drop}
 use Rattle.model.specs.declared.Header.{Header}
-use Rattle.model.specs.declared.Line.{Line}
 use Rattle.model.specs.declared.Line.the-variants.{Free}
 use Rattle.model.specs.declared.Answer.{Answer}
 use Rattle.model.specs.declared.Answer.the-variants.{Done, Refused}
@@ -71,9 +70,7 @@ module _ (circuit : List (List ℕ)) (size : ℕ) (erasure : List (List ℕ)) (c
       pub other-there : i < length erasure
       other-there = omega (arith, c .least, c .other-long, c .other-few)
 
-      module _
-          (x y : Line) (r : Bool) (tested : r ≡ sameLine x y) (x-is : x ≡ getD (linesOf circuit) i Free)
-          (y-is : y ≡ getD (linesOf erasure) i Free) where
+      module _ (r : Bool) (tested : r ≡ sameLine (getD (linesOf circuit) i Free) (getD (linesOf erasure) i Free)) where
         step :
             cond r (compared (i + 1) (drop (i + 1) (linesHeld circuit size)) (drop (i + 1) (linesHeld erasure count)) Done) (Refused 12 (placeOf i))
             ≡ lineDifference
@@ -82,8 +79,6 @@ module _ (circuit : List (List ℕ)) (size : ℕ) (erasure : List (List ℕ)) (c
               next-line circuit size (c .long) (c .few) i (omega (arith, c .least)),
               next-line erasure count (c .other-long) (c .other-few) i (omega (arith, c .least)),
               ← add-one i,
-              ← x-is,
-              ← y-is,
               ← tested,
             )
             at (c .left)

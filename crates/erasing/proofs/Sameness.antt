@@ -63,7 +63,7 @@ lines-other x y f = go (sameLine x y) (same-line x y)
     go true g = absurd (f (g tt))
     go false g = refl
 
-lines-same : (x y : Line) → x ≡ y → true ≡ sameLine x y
+pub lines-same : (x y : Line) → x ≡ y → true ≡ sameLine x y
 lines-same x y e = go (sameLine x y) (subst (λ (z : Line). T (sameLine x z)) e (line-same x))
   where
     go : (b : Bool) → T b → true ≡ b

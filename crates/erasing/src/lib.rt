@@ -3,13 +3,15 @@ use model::Answer;
 use model::Header;
 use model::Line;
 ghost use mathlib.Core.Path.{_≡_};
-ghost use Prim.Native.Nat.{_≤_, min};
+ghost use Prim.Native.Nat.{_≤_, _<_, min};
+ghost use lib.Dec.{T};
 ghost use lib.ListN.{length, getD};
+ghost use Rattle.model.specs.declared.Line.the-variants.{Free};
 ghost use Rattle.model.specs.Files.{placeOf};
 ghost use Rattle.model.specs.Services.{fateOf, renumbered, erase};
 ghost use Rattle.model.specs.Refused.{sameLine, sameHeader};
 ghost use Rattle.text.specs.Files.{fileOf};
-ghost use Rattle.tables.specs.Records.{linesHeld, freeRecords, held};
+ghost use Rattle.tables.specs.Records.{lineOf, linesOf, linesHeld, freeRecords, held};
 ghost use Rattle.erasing.specs.Renumbering.{meaning, withOperands};
 ghost use Rattle.erasing.specs.Comparing.{numbersOf, difference};
 
@@ -172,6 +174,36 @@ fn same_line(x: Line, y: Line) -> bool
     same_numbers(numbers_of(x), numbers_of(y))
 }
 
+// Whether two records are the same, number by number: then their lines are.
+fn same_record(r: [u16; 4], s: [u16; 4]) -> bool
+    ensures { λ b. ⌜ (T b → lineOf r ≡ lineOf s) ⌝ }
+{
+    if r[0] != s[0] {
+        return false;
+    }
+    if r[1] != s[1] {
+        return false;
+    }
+    if r[2] != s[2] {
+        return false;
+    }
+    r[3] == s[3]
+}
+
+// Whether line i is the same in both. The records are asked first: lines are read only where these differ.
+fn same_at<'a>(circuit: &'a [[u16; 4]], erasure: &'a [[u16; 4]], i: usize) -> bool
+    requires { ⌜ i < length (now circuit) ⌝ }
+    requires { ⌜ i < length (now erasure) ⌝ }
+    ensures { λ r. ⌜ r ≡ sameLine (getD (linesOf (now (circuit .entry))) i Free) (getD (linesOf (now (erasure .entry))) i Free) ⌝ }
+{
+    if same_record(circuit[i], erasure[i]) {
+        return true;
+    }
+    let line = tables::line_at(circuit, i);
+    let other_line = tables::line_at(erasure, i);
+    same_line(line, other_line)
+}
+
 // Whether two headers are the same.
 fn same_header(one: Header, other: Header) -> bool
     ensures { λ r. ⌜ r ≡ sameHeader one other ⌝ }
@@ -230,9 +262,7 @@ pub fn compare<'a>(
     let shorter = smaller(size, count);
     let mut i: usize = 0;
     while i < shorter {
-        let line = tables::line_at(circuit, i);
-        let other_line = tables::line_at(erasure, i);
-        if !same_line(line, other_line) {
+        if !same_at(circuit, erasure, i) {
             return differs_at(i);
         }
         i += 1;

@@ -25,18 +25,18 @@ use Rattle.text.proofs.Tables.{table-length}
 use Rattle.rules.specs.declared.bounds.Ruled.{Ruled}
 use Rattle.rules.specs.declared.bounds.Ruled.the-variants.{Goes, Stops}
 use Rattle.rules.specs.Ruled.{stepOf, ruledBy, Small}
-use Rattle.rules.specs.Numbers.{foundIn}
+use Rattle.rules.specs.Numbers.{foundIn, AllSmall, ruledFrom}
 use Rattle.tables.specs.Operands.{firstOperand, secondOperand}
 use Rattle.tables.specs.Records.{lineOf, linesOf, linesHeld, held}
-use Rattle.rules.proofs.NumberLaws.{foundAll, found-at, none-found, found-set}
-use Rattle.rules.proofs.Operands.{first-within, second-within, step-is}
-use Rattle.rules.proofs.SmallLaws.{AllSmall, bare-small, set-small, found-small}
+use Rattle.rules.proofs.NumberLaws.{foundAll, found-at, found-set}
+use Rattle.rules.proofs.Operands.{step-is}
+use Rattle.rules.proofs.SmallLaws.{none-small, set-small, found-small}
 
 -- The loop's invariant: with what was found of the first i lines held as numbers, the lines left come to what all lines come to.
 pub record Checking (h : Header) (records : List (List ℕ)) (count : ℕ) (numbers : List (List ℕ)) (i : ℕ) : Type 0 where
   pub formed : TableFormed Schedule (held h records count)
   pub wide : length numbers ≡ 1792
-  pub small : AllSmall (foundAll numbers)
+  pub small : AllSmall numbers
   pub few : count ≤ 1792
   pub within : i ≤ count
   -- how many `in` lines stand before, which the check does not ask
@@ -50,7 +50,7 @@ start h records count formed =
     record {
       formed = formed;
       wide = length-replicate {A = List ℕ} 1792 (replicate {A = ℕ} 3 0);
-      small = subst AllSmall (sym (none-found 1792)) (bare-small 1792);
+      small = none-small 1792;
       few = leb→le count 1792 (formed .few);
       within = omega arith;
       ins = 0;
@@ -88,8 +88,8 @@ module _ (h : Header) (records : List (List ℕ)) (count : ℕ) (numbers : List 
   pub header-ranged : T (headerInRange h)
   header-ranged = well-header Schedule h lines (k .formed .lines)
 
-  pub small-at : (a : ℕ) (v : Found) → v ≡ foundIn (getD numbers a []) → Small v
-  small-at a v e = subst Small (sym (found-at numbers a v e)) (k .small a)
+  pub all-small : AllSmall numbers
+  all-small = k .small
 
   -- line i, and what is left after it
   abbrev onward : Step Found ℕ → Run Found ℕ
@@ -125,23 +125,14 @@ module _ (h : Header) (records : List (List ℕ)) (count : ℕ) (numbers : List 
       pub line-ranged : T (inRange Schedule h x)
       line-ranged = subst (λ (y : Line). T (inRange Schedule h y)) (sym is) (facts .range)
 
-      pub first-below : (a : ℕ) → a ≡ firstOperand x → a < 1792
-      unfolding firstOperand
-      first-below a e =
-          rw (e, is) (first-within (take i lines) 1792 (omega (arith, before-long, room)) (omega arith) (operands line) (facts .usable))
+      module _ (r : Ruled) (told : stepOf r ≡ ruledFrom h x numbers) where
+        told-at : stepOf r ≡ ruledBy h x (getD found (firstOperand x) Founds.Bare) (getD found (secondOperand x) Founds.Bare)
+        unfolding ruledFrom
+        told-at = rw (found-at numbers (firstOperand x), found-at numbers (secondOperand x)) at told
 
-      pub second-below : (b : ℕ) → b ≡ secondOperand x → b < 1792
-      unfolding secondOperand
-      second-below b e =
-          rw (e, is) (second-within (take i lines) 1792 (omega (arith, before-long, room)) (omega arith) (operands line) (facts .usable))
-
-      module _
-          (a b : ℕ) (first : a ≡ firstOperand x) (second : b ≡ secondOperand x) (v w : Found) (v-is : v ≡ foundIn (getD numbers a []))
-          (w-is : w ≡ foundIn (getD numbers b [])) (r : Ruled) (told : stepOf r ≡ ruledBy h x v w) where
         steps : step (checkMachine h) (k .ins) (take i found) line ≡ stepOf r
         steps =
-            step-is h (take i lines) found (k .ins) i before-long (omega (arith, room, found-wide)) line (facts .usable)
-            ∙ rw (← is, ← first, ← second, ← found-at numbers a v v-is, ← found-at numbers b w w-is) (sym told)
+            step-is h (take i lines) found (k .ins) i before-long (omega (arith, room, found-wide)) line (facts .usable) ∙ rw (← is) (sym told-at)
 
         next : onward (stepOf r) ≡ run (checkMachine h) lines
         next = ap onward (sym steps) ∙ ap (runFrom (checkMachine h) (k .ins) (take i found)) (sym rest-is) ∙ k .left
@@ -153,7 +144,7 @@ module _ (h : Header) (records : List (List ℕ)) (count : ℕ) (numbers : List 
         -- a line that breaks none
         module _ (u : Found) (passes : r ≡ Goes u) where
           pub passed-small : Small u
-          passed-small = found-small h header-ranged x line-ranged v w u (small-at a v v-is) (sym told ∙ ap stepOf passes)
+          passed-small = found-small h header-ranged x line-ranged numbers u (k .small) (sym told ∙ ap stepOf passes)
 
           pub line-passes : (m : List ℕ) → foundIn m ≡ u → Checking h records count (set numbers i m) (i + 1)
           line-passes m e =
@@ -161,11 +152,11 @@ module _ (h : Header) (records : List (List ℕ)) (count : ℕ) (numbers : List 
               record {
                 formed = k .formed;
                 wide = length-set numbers i m ∙ k .wide;
-                small = subst AllSmall (sym stored) (set-small found i u (k .small) passed-small);
+                small = set-small numbers i m (k .small) (subst Small (sym e) passed-small);
                 few = k .few;
                 within = omega arith;
                 ins = countIn line (k .ins);
                 left = rw (stored, add-one i, take-suc-set found i u (omega (arith, room, found-wide))) (rw passes at next);
               }
 
-pub ruleset loop-laws = (needs, room, record-there, first-below, second-below)
+pub ruleset loop-laws = (needs, start, room, record-there, header-ranged, line-ranged, all-small, line-refused, passed-small, line-passes, all-pass)

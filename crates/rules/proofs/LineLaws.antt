@@ -2,7 +2,8 @@
 use Prim.Native.Nat.{ℕ, _+_, _*_, _≤_}
 use native.Mathlib.Nat.{mul-le-mul}
 use native.Mathlib.Omega.{arith}
-use mathlib.Core.Path.{_≡_, refl, ap, _∙_, subst}
+use mathlib.Core.Path.{_≡_, refl, sym, ap, _∙_, subst}
+use mathlib.Core.List.{List}
 use borrow.Author.Needs.{needs}
 use lib.Dec.{T}
 use lib.IntN.{ℤ, pos, _-ℤ_}
@@ -21,7 +22,9 @@ use Rattle.model.specs.Machine.{Step}
 use Rattle.model.specs.Refused.{bounded, onCiphertext}
 use Rattle.model.proofs.Tests.{and-first, and-second, within-facts, header-facts, level-most}
 use Rattle.rules.specs.declared.bounds.Ruled.{Ruled}
-use Rattle.rules.specs.Ruled.{stepOf, moved, ruledBy, SmallNumbers}
+use Rattle.rules.specs.Ruled.{stepOf, moved, ruledBy, Small, SmallNumbers}
+use Rattle.rules.specs.Numbers.{foundAt, AllSmall, ruledFrom}
+use Rattle.tables.specs.Operands.{firstOperand, secondOperand}
 use Rattle.rules.proofs.BoundLaws.{waterline-small}
 
 -- ---- ranges
@@ -59,9 +62,23 @@ module _ (h : Header) (ranged : T (headerInRange h)) where
       pub upscaled-small : x ≡ Us a count → count ≤ 3600
       upscaled-small e = within-facts 1 3600 count (named-range (Us a count) e) .most
 
+-- what a line names
+pub held-small : (found : List (List ℕ)) → AllSmall found → (a : ℕ) (v : Found) → v ≡ foundAt found a → Small v
+held-small found small a v e = subst Small (sym e) (small a)
+
 -- ---- steps
-pub by-line : (h : Header) (x y : Line) (v w : Found) (s : Step Found ℕ) → x ≡ y → s ≡ ruledBy h y v w → s ≡ ruledBy h x v w
-by-line h x y v w s e q = rw e q
+-- by the line's word, which names no value, one or two
+module _ (h : Header) (x y : Line) (found : List (List ℕ)) (s : Step Found ℕ) (e : x ≡ y) where
+  pub by-none : s ≡ ruledBy h y (foundAt found (firstOperand y)) (foundAt found (secondOperand y)) → s ≡ ruledFrom h x found
+  unfolding ruledFrom
+  by-none q = rw e q
+
+  module _ (v : Found) (first : v ≡ foundAt found (firstOperand y)) where
+    pub by-one : s ≡ ruledBy h y v (foundAt found (secondOperand y)) → s ≡ ruledFrom h x found
+    by-one q = by-none (rw first at q)
+
+    pub by-both : (w : Found) → w ≡ foundAt found (secondOperand y) → s ≡ ruledBy h y v w → s ≡ ruledFrom h x found
+    by-both w second q = by-one (rw second at q)
 
 plus-zero : (n : ℕ) → n + 0 ≡ n
 plus-zero n = omega arith
@@ -93,4 +110,4 @@ module _ (h : Header) (x : Found) (r : Ruled) where
   pub upscaled-is : (b : ℕ) → stepOf r ≡ moved h b 0 0 x → stepOf r ≡ onCiphertext (λ s l. bounded h Founds.Ciphertext (pos (s + b)) (pos l)) x
   upscaled-is b q = rewritten (λ s. pos (s + b) -ℤ pos 0) (λ s. pos (s + b)) (λ l. pos l -ℤ pos 0) pos (λ s. minus-zero (s + b)) minus-zero q
 
-pub ruleset line-laws = (needs, waterline-small, top-small, encoded-small, rescaled-small, rescaled-fits, modswitched-small, upscaled-small, by-line, unchanged-is, rescaled-is, modswitched-is, upscaled-is)
+pub ruleset line-laws = (needs, waterline-small, top-small, encoded-small, rescaled-small, rescaled-fits, modswitched-small, upscaled-small, held-small, by-none, by-one, by-both, unchanged-is, rescaled-is, modswitched-is, upscaled-is)

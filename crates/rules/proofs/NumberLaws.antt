@@ -1,17 +1,17 @@
 -- What was found of a line, held as three numbers: the numbers of each of the three, and a list of them. Assumes nothing.
-use Prim.Native.Nat.{ℕ, zero, suc}
+use Prim.Native.Nat.{ℕ, zero, suc, _≤_}
 use native.Mathlib.Omega.{arith}
 use mathlib.Core.Path.{_≡_, refl, sym, ap, _∙_, subst}
 use mathlib.Core.List.{List, [], _∷_, map}
 use borrow.Author.Needs.{needs}
 use borrow.Author.Tests.{ne-eqb}
-use lib.ListN.{getD, set, replicate, List·getD-map}
+use lib.ListN.{length, getD, set, List·getD-map, List·getD-eq-default}
 use mir.Syntax.{w16}
 use mir.Val.{Fits}
 use Rattle.model.specs.declared.Found.{Found}
 use Rattle.model.specs.declared.Found.the-variants.{Bare, Encoded, Ciphertext}
 use Rattle.rules.specs.Ruled.{Small, SmallNumbers}
-use Rattle.rules.specs.Numbers.{foundFrom, foundIn}
+use Rattle.rules.specs.Numbers.{foundFrom, foundIn, foundAt}
 
 -- ---- held as numbers
 module _ (x : Found) where
@@ -64,14 +64,21 @@ pub ruleset reading-laws = (needs, reads-bare, reads-encoded, reads-ciphertext)
 abbrev pub foundAll : List (List ℕ) → List Found
 foundAll found = map foundIn found
 
-pub found-at : (found : List (List ℕ)) (a : ℕ) (x : Found) → x ≡ foundIn (getD found a []) → x ≡ getD (foundAll found) a Bare
-unfolding foundIn foundFrom
-found-at found a x e = e ∙ sym (List·getD-map foundIn found a [])
+pub found-at : (found : List (List ℕ)) (a : ℕ) → foundAt found a ≡ getD (foundAll found) a Bare
+unfolding foundAt foundIn foundFrom
+found-at found a = sym (List·getD-map foundIn found a [])
 
-pub none-found : (n : ℕ) → foundAll (replicate n (replicate 3 0)) ≡ replicate n Bare
-unfolding foundIn foundFrom
-none-found zero = refl
-none-found (suc n) = ap (λ (l : List Found). Bare ∷ l) (none-found n)
+-- one of them, where it stands and past the end
+module _ (found : List (List ℕ)) (a : ℕ) where
+  pub stands : (x : Found) → x ≡ foundIn (getD found a []) → x ≡ foundAt found a
+  unfolding foundAt
+  stands x e = e
+
+  pub past-the-end : length found ≤ a → Bare ≡ foundAt found a
+  unfolding foundAt foundIn foundFrom
+  past-the-end l = rw (List·getD-eq-default found [] l)
+
+pub ruleset finding-laws = (needs, stands, past-the-end)
 
 pub found-set : (found : List (List ℕ)) (i : ℕ) (numbers : List ℕ) → foundAll (set found i numbers) ≡ set (foundAll found) i (foundIn numbers)
 found-set [] i numbers = refl

@@ -1,5 +1,5 @@
--- A well-formed line's operands: they name earlier lines, and with what those hold the check's step is a step of one line. Assumes nothing.
-use Prim.Native.Nat.{ℕ, _≤_, _<_}
+-- A well-formed line's operands name earlier lines, and with what those hold the check's step is a step of one line. Assumes nothing.
+use Prim.Native.Nat.{ℕ, _≤_}
 use native.Mathlib.Omega.{arith}
 use mathlib.Core.Path.{_≡_, refl, ap, _∙_}
 use mathlib.Core.Bool.{_&&_}
@@ -21,21 +21,6 @@ use Rattle.model.proofs.Tests.{and-first, and-second}
 use Rattle.model.proofs.Formed.{usable-below}
 use Rattle.rules.specs.Ruled.{ruledBy}
 use Rattle.tables.specs.Operands.{firstOperand, secondOperand}
-
--- ---- the values that a line names
-module _ (before : List Line) (most : ℕ) (few : length before ≤ most) (some : 0 < most) where
-  named-below : (a : ℕ) → T (isUsable (kindAt before a)) → a < most
-  named-below a u = omega (arith, usable-below before a u)
-
-  pub first-within : (names : List ℕ) → T (everyUsable before names) → getD names 0 0 < most
-  first-within [] u = some
-  first-within (a ∷ names) u = named-below a (and-first (isUsable (kindAt before a)) (everyUsable before names) u)
-
-  pub second-within : (names : List ℕ) → T (everyUsable before names) → getD names 1 0 < most
-  second-within [] u = some
-  second-within (a ∷ []) u = some
-  second-within (a ∷ b ∷ names) u =
-      first-within (b ∷ names) (and-second (isUsable (kindAt before a)) (isUsable (kindAt before b) && everyUsable before names) u)
 
 -- ---- the check's step, where the lines before hold the first i of what was found
 module _ (h : Header) (before : List Line) (found : List Found) (ins i : ℕ) (long : length before ≡ i) (within : i ≤ length found) where

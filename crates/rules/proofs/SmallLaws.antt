@@ -6,7 +6,7 @@ use mathlib.Core.Path.{_≡_, subst}
 use mathlib.Core.List.{List, [], _∷_}
 use lib.Dec.{T}
 use lib.IntN.{ℤ, pos, _-ℤ_}
-use lib.ListN.{getD, set, replicate}
+use lib.ListN.{set, replicate}
 use Rattle.ints.specs.Parts.{positive}
 use Rattle.ints.proofs.Linear.{positive-sub}
 use Rattle.model.specs.declared.Header.{Header}
@@ -24,6 +24,8 @@ use Rattle.model.proofs.Bounded.{tests-bound}
 use Rattle.model.proofs.Outcomes.{Outcome, AnyReason}
 use Rattle.model.proofs.Checked.{scaleOf, levelOf, on-bare, on-ciphertext, on-pair, on-bounded, on-sum, on-product}
 use Rattle.rules.specs.Ruled.{ruledBy, Small, SmallNumbers}
+use Rattle.rules.specs.Numbers.{foundFrom, foundIn, foundAt, AllSmall, ruledFrom}
+use Rattle.tables.specs.Operands.{firstOperand, secondOperand}
 use Rattle.rules.proofs.LineLaws.{top-small, encoded-small}
 
 -- ---- one line
@@ -71,21 +73,22 @@ module _ (h : Header) (ranged : T (headerInRange h)) where
     small-outcome w (Us a b) r = one (λ s. pos (s + b)) pos (λ n q. q)
     small-outcome w Free r = tt
 
-  pub found-small : (x : Line) → T (inRange Schedule h x) → (v w u : Found) → Small v → ruledBy h x v w ≡ goes u → Small u
-  found-small x r v w u p e = subst SmallOutcome e (small-outcome v p w x r)
+  pub found-small : (x : Line) → T (inRange Schedule h x) → (found : List (List ℕ)) (u : Found) → AllSmall found → ruledFrom h x found ≡ goes u → Small u
+  unfolding ruledFrom
+  found-small x r found u all e =
+      subst SmallOutcome e (small-outcome (foundAt found (firstOperand x)) (all (firstOperand x)) (foundAt found (secondOperand x)) x r)
 
 -- ---- all that was found; past the end of a list nothing is
-abbrev pub AllSmall : List Found → Type 0
-AllSmall found = (a : ℕ) → Small (getD found a Founds.Bare)
+pub none-small : (n : ℕ) → AllSmall (replicate n (replicate 3 0))
+unfolding foundAt foundIn foundFrom
+none-small zero a = tt
+none-small (suc n) zero = tt
+none-small (suc n) (suc a) = none-small n a
 
-pub bare-small : (n : ℕ) → AllSmall (replicate n Founds.Bare)
-bare-small zero a = tt
-bare-small (suc n) zero = tt
-bare-small (suc n) (suc a) = bare-small n a
-
-pub set-small : (found : List Found) (i : ℕ) (v : Found) → AllSmall found → Small v → AllSmall (set found i v)
-set-small [] i v all p a = tt
-set-small (u ∷ found) zero v all p zero = p
-set-small (u ∷ found) zero v all p (suc a) = all (suc a)
-set-small (u ∷ found) (suc i) v all p zero = all zero
-set-small (u ∷ found) (suc i) v all p (suc a) = set-small found i v (λ b. all (suc b)) p a
+pub set-small : (found : List (List ℕ)) (i : ℕ) (numbers : List ℕ) → AllSmall found → Small (foundIn numbers) → AllSmall (set found i numbers)
+unfolding foundAt
+set-small [] i numbers all p a = all a
+set-small (q ∷ found) zero numbers all p zero = p
+set-small (q ∷ found) zero numbers all p (suc a) = all (suc a)
+set-small (q ∷ found) (suc i) numbers all p zero = all zero
+set-small (q ∷ found) (suc i) numbers all p (suc a) = set-small found i numbers (λ b. all (suc b)) p a

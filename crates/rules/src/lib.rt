@@ -15,46 +15,8 @@ ghost use Rattle.model.specs.Scales.{headerInRange};
 ghost use Rattle.model.specs.Files.{inRange, TableFormed};
 ghost use Rattle.model.specs.Refused.{rulesAnswer};
 ghost use Rattle.tables.specs.Records.{linesHeld, held};
-ghost use Rattle.rules.specs.Ruled.{stepOf, ruledBy, Small};
-ghost use Rattle.rules.specs.Numbers.{foundIn};
-
-// A line, from what its operands hold.
-fn ruled(header: Header, line: Line, first: Found, second: Found) -> Ruled
-    requires { ⌜ T (headerInRange header) ⌝ }
-    requires { ⌜ T (inRange Schedule header line) ⌝ }
-    requires { ⌜ Small first ⌝ }
-    requires { ⌜ Small second ⌝ }
-    ensures { λ r. ⌜ stepOf r ≡ ruledBy header line first second ⌝ }
-{
-    match line {
-        Line::In => {
-            bounds::bounded_natural(header, Scaled::Ciphertext, header.waterline, header.top)
-        }
-        Line::Const(_) => Ruled::Goes(Found::Bare),
-        Line::Neg(_) => words::moved(header, first, 0, 0, 0),
-        Line::Rot(_, _) => words::moved(header, first, 0, 0, 0),
-        Line::Add(_, _) => words::added(header, first, second),
-        Line::Mul(_, _) => words::multiplied(header, first, second),
-        Line::Out(_) => words::moved(header, first, 0, 0, 0),
-        Line::Enc {
-            of: _,
-            scale,
-            level,
-        } => words::encoded(header, first, scale as u32, level),
-        Line::Rs(_, count) => {
-            words::moved(
-                header,
-                first,
-                0,
-                header.factor * (count as u32),
-                count as u32,
-            )
-        }
-        Line::Ms(_, count) => words::moved(header, first, 0, 0, count as u32),
-        Line::Us(_, bits) => words::moved(header, first, bits as u32, 0, 0),
-        Line::Free => Ruled::Stops(4),
-    }
-}
+ghost use Rattle.rules.specs.Ruled.{stepOf, Small};
+ghost use Rattle.rules.specs.Numbers.{foundIn, foundAt, AllSmall, ruledFrom};
 
 // ---- what was found of each line, as three numbers: 0 for a bare constant, 1 for an encoded one, 2 for a ciphertext, then scale and level
 fn numbers_of(found: Found) -> [u16; 3]
@@ -82,6 +44,48 @@ fn found_in(numbers: [u16; 3]) -> Found
     Found::Ciphertext(scale, level)
 }
 
+// What was found of a line so far, and a bare constant where there is no such line.
+fn found_at(found: &[[u16; 3]], of: u16) -> Found
+    ensures { λ r. ⌜ r ≡ foundAt (now (found .entry)) of ⌝ }
+{
+    let at = of as usize;
+    if at < found.len() {
+        return found_in(found[at]);
+    }
+    Found::Bare
+}
+
+// ---- lines
+// A line, from what was found of the lines before it.
+fn ruled(header: Header, line: Line, found: &[[u16; 3]]) -> Ruled
+    requires { ⌜ T (headerInRange header) ⌝ }
+    requires { ⌜ T (inRange Schedule header line) ⌝ }
+    requires { ⌜ AllSmall (now found) ⌝ }
+    ensures { λ r. ⌜ stepOf r ≡ ruledFrom header line (now (found .entry)) ⌝ }
+{
+    match line {
+        Line::In => {
+            bounds::bounded_natural(header, Scaled::Ciphertext, header.waterline, header.top)
+        }
+        Line::Const(_) => Ruled::Goes(Found::Bare),
+        Line::Neg(a) => words::moved(header, found_at(found, a), 0, 0, 0),
+        Line::Rot(a, _) => words::moved(header, found_at(found, a), 0, 0, 0),
+        Line::Add(a, b) => words::added(header, found_at(found, a), found_at(found, b)),
+        Line::Mul(a, b) => words::multiplied(header, found_at(found, a), found_at(found, b)),
+        Line::Out(a) => words::moved(header, found_at(found, a), 0, 0, 0),
+        Line::Enc { of, scale, level } => {
+            words::encoded(header, found_at(found, of), scale as u32, level)
+        }
+        Line::Rs(a, count) => {
+            let lowered = header.factor * (count as u32);
+            words::moved(header, found_at(found, a), 0, lowered, count as u32)
+        }
+        Line::Ms(a, count) => words::moved(header, found_at(found, a), 0, 0, count as u32),
+        Line::Us(a, bits) => words::moved(header, found_at(found, a), bits as u32, 0, 0),
+        Line::Free => Ruled::Stops(4),
+    }
+}
+
 // The first line that breaks a rule, and which.
 pub fn rules_answer(header: Header, schedule: &[[u16; 4]], count: usize) -> Answer
     requires { ⌜ TableFormed Schedule (held header (now schedule) count) ⌝ }
@@ -91,11 +95,7 @@ pub fn rules_answer(header: Header, schedule: &[[u16; 4]], count: usize) -> Answ
     let mut i: usize = 0;
     while i < count {
         let line = tables::line_at(schedule, i);
-        let a = tables::first_operand(line) as usize;
-        let b = tables::second_operand(line) as usize;
-        let first = found_in(found[a]);
-        let second = found_in(found[b]);
-        match ruled(header, line, first, second) {
+        match ruled(header, line, &found) {
             Ruled::Stops(number) => {
                 return Answer::Refused {
                     number: number,

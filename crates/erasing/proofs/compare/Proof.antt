@@ -1,6 +1,5 @@
 -- `erasing::compare` meets its contract. The loop's invariant is `Comparing`; the measure is what is left of the shorter file. Assumes nothing.
 use Prim.Native.Nat.{_-_}
-use borrow.Author.Needs.{needs}
 use Rattle.erasing.proofs.Comparing.{Comparing, compare-laws}
 use Rattle.erasing.proofs.compare.Statement.{statement}
 use Rattle.erasing.proofs.compare.Tie as tie
@@ -17,18 +16,16 @@ compare-spec =
     (tie.spec
     Inv-loop
     μ-loop
-    (λ c κs. search needs)
+    (λ c κs. search compare-laws)
     (λ c. search compare-laws)
-    (λ c κs. search needs)
+    (λ c κs. search compare-laws)
     (λ c. search compare-laws)
     (λ c κs. search compare-laws)
     (λ c κs. search compare-laws)
-    (λ c κs. search needs)
-    (λ c κs. search needs)
-    (λ c. search compare-laws)
-    (λ c. search needs)
-    (λ c. search needs)
     (λ c. search compare-laws)
     (λ c. search compare-laws)
-    (λ c κs. search needs)
+    (λ c. search compare-laws)
+    (λ c. search compare-laws)
+    (λ c. search compare-laws)
+    (λ c κs. search compare-laws)
     (λ c. search compare-laws))
