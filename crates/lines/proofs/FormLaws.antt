@@ -18,14 +18,15 @@ use Rattle.fields.specs.declared.Field.{Field}
 use Rattle.fields.specs.declared.Field.the-variants.{Number, NoNumber}
 use Rattle.fields.specs.declared.Amount.{Amount}
 use Rattle.fields.specs.declared.Amount.the-variants.{By, NoAmount}
-use Rattle.fields.proofs.PieceLaws.{before-within, split-some, split-cut, split-last}
+use Rattle.fields.proofs.PieceLaws.{before-within, split-cut, split-last}
 use Rattle.model.specs.declared.Grammar.{Grammar}
 use Rattle.model.specs.declared.Word.{Word}
 use Rattle.text.specs.declared.Form.{Form}
 use Rattle.text.specs.declared.Form.the-variants.{Unformed}
 use Rattle.text.specs.Words.{arity, takesAmount, isKeptWord, isWordOf, wordNamed}
-use Rattle.text.specs.Lines.{shape, notOfForm, second, shapeOf, formOf}
+use Rattle.text.specs.Lines.{shape, second, shapeOf, formOf}
 use Rattle.text.specs.Files.{beginsKept}
+use Rattle.lines.specs.Forms.{oneField, twoFields, threeFields}
 
 -- ---- a word and its fields
 module _ (g : Grammar) (place : ℕ) (w : Word) (t : Bool) where
@@ -38,57 +39,42 @@ module _ (g : Grammar) (place : ℕ) (w : Word) (t : Bool) where
     unfolding shapeOf
     none-unformed h = rw (← q, h)
 
-  module _ (a : Bytes) (q : t ≡ (isWordOf g w && eqb (arity w) 1)) where
-    pub one-unformed : t ≡ false → Unformed 1 place ≡ shapeOf g place w (a ∷ [])
-    unfolding shapeOf
-    one-unformed h = rw (← q, h)
+module _ (place : ℕ) (w : Word) (a : Bytes) (x : Field) (p : x ≡ numberOf a) where
+  pub one-other : x ≡ NoNumber → Unformed 1 place ≡ oneField place w a
+  unfolding oneField
+  one-other e = rw (← p, e)
 
-    module _ (x : Field) (p : x ≡ numberOf a) (h : t ≡ true) where
-      pub one-other : x ≡ NoNumber → Unformed 1 place ≡ shapeOf g place w (a ∷ [])
-      unfolding shapeOf
-      one-other e = rw (← q, h, ← p, e)
+  pub one-formed : (n : ℕ) → x ≡ Number n → shape w n 0 0 (pos 0) ≡ oneField place w a
+  unfolding oneField
+  one-formed n e = rw (← p, e)
 
-      pub one-formed : (n : ℕ) → x ≡ Number n → shape w n 0 0 (pos 0) ≡ shapeOf g place w (a ∷ [])
-      unfolding shapeOf
-      one-formed n e = rw (← q, h, ← p, e)
+  module _ (b : Bytes) where
+    pub two-other : x ≡ NoNumber → Unformed 1 place ≡ twoFields place w a b
+    unfolding twoFields
+    two-other e = rw (← p, e)
 
-  module _ (a b : Bytes) (q : t ≡ (isWordOf g w && eqb (arity w) 2)) where
-    pub two-unformed : t ≡ false → Unformed 1 place ≡ shapeOf g place w (a ∷ b ∷ [])
-    unfolding shapeOf
-    two-unformed h = rw (← q, h)
+    pub two-second : (n : ℕ) (r : Form) → x ≡ Number n → r ≡ second place w n b → r ≡ twoFields place w a b
+    unfolding twoFields
+    two-second n r e f = f ∙ rw (← p, e)
 
-    module _ (x : Field) (p : x ≡ numberOf a) (h : t ≡ true) where
-      pub two-other : x ≡ NoNumber → Unformed 1 place ≡ shapeOf g place w (a ∷ b ∷ [])
-      unfolding shapeOf
-      two-other e = rw (← q, h, ← p, e)
-
-      pub two-second : (n : ℕ) (r : Form) → x ≡ Number n → r ≡ second place w n b → r ≡ shapeOf g place w (a ∷ b ∷ [])
-      unfolding shapeOf
-      two-second n r e f = f ∙ rw (← q, h, ← p, e)
-
-  module _ (a b c : Bytes) (q : t ≡ (isWordOf g w && eqb (arity w) 3)) where
-    pub three-unformed : t ≡ false → Unformed 1 place ≡ shapeOf g place w (a ∷ b ∷ c ∷ [])
-    unfolding shapeOf
-    three-unformed h = rw (← q, h)
-
-    module _ (x : Field) (p : x ≡ numberOf a) (h : t ≡ true) where
-      pub three-first : x ≡ NoNumber → Unformed 1 place ≡ shapeOf g place w (a ∷ b ∷ c ∷ [])
-      unfolding shapeOf
-      three-first e = rw (← q, h, ← p, e)
+    module _ (c : Bytes) where
+      pub three-first : x ≡ NoNumber → Unformed 1 place ≡ threeFields place w a b c
+      unfolding threeFields
+      three-first e = rw (← p, e)
 
       module _ (n : ℕ) (e : x ≡ Number n) (y : Field) (p′ : y ≡ numberOf b) where
-        pub three-second : y ≡ NoNumber → Unformed 1 place ≡ shapeOf g place w (a ∷ b ∷ c ∷ [])
-        unfolding shapeOf
-        three-second e′ = rw (← q, h, ← p, e, ← p′, e′)
+        pub three-second : y ≡ NoNumber → Unformed 1 place ≡ threeFields place w a b c
+        unfolding threeFields
+        three-second e′ = rw (← p, e, ← p′, e′)
 
         module _ (m : ℕ) (e′ : y ≡ Number m) (z : Field) (p″ : z ≡ numberOf c) where
-          pub three-third : z ≡ NoNumber → Unformed 1 place ≡ shapeOf g place w (a ∷ b ∷ c ∷ [])
-          unfolding shapeOf
-          three-third e″ = rw (← q, h, ← p, e, ← p′, e′, ← p″, e″)
+          pub three-third : z ≡ NoNumber → Unformed 1 place ≡ threeFields place w a b c
+          unfolding threeFields
+          three-third e″ = rw (← p, e, ← p′, e′, ← p″, e″)
 
-          pub three-formed : (k : ℕ) → z ≡ Number k → shape w n m k (pos 0) ≡ shapeOf g place w (a ∷ b ∷ c ∷ [])
-          unfolding shapeOf
-          three-formed k e″ = rw (← q, h, ← p, e, ← p′, e′, ← p″, e″)
+          pub three-formed : (k : ℕ) → z ≡ Number k → shape w n m k (pos 0) ≡ threeFields place w a b c
+          unfolding threeFields
+          three-formed k e″ = rw (← p, e, ← p′, e′, ← p″, e″)
 
 -- ---- the second field
 module _ (place : ℕ) (w : Word) (n : ℕ) (b : Bytes) (t : Bool) (q : t ≡ takesAmount w) where
@@ -142,32 +128,13 @@ module _ (g : Grammar) (place : ℕ) (r : Form) (s : Bytes) (e : ℕ) (q : e ≡
     pub form-fields : (e ≡ length s → ⊥) → r ≡ shapeOf g place w (split tab (after s e)) → r ≡ formOf g place (split tab s)
     form-fields n p = rw (cut s e q n, ← k) p
 
-  module _ (w : Word) where
-    pub fields-one : e ≡ length s → r ≡ shapeOf g place w (s ∷ []) → r ≡ shapeOf g place w (split tab s)
-    fields-one h p = rw (uncut s e q h) p
+  module _ (n : e ≡ length s → ⊥) (w : Word) where
+    pub fields-more : r ≡ shapeOf g place w (take e s ∷ split tab (after s e)) → r ≡ shapeOf g place w (split tab s)
+    fields-more p = rw (cut s e q n) p
 
-    pub fields-more : (e ≡ length s → ⊥) → r ≡ shapeOf g place w (take e s ∷ split tab (after s e)) → r ≡ shapeOf g place w (split tab s)
-    fields-more n p = rw (cut s e q n) p
+    pub fields-more-two : (a : Bytes) → r ≡ shapeOf g place w (a ∷ take e s ∷ split tab (after s e)) → r ≡ shapeOf g place w (a ∷ split tab s)
+    fields-more-two a p = rw (cut s e q n) p
 
-    module _ (a : Bytes) where
-      pub fields-two : e ≡ length s → r ≡ shapeOf g place w (a ∷ s ∷ []) → r ≡ shapeOf g place w (a ∷ split tab s)
-      fields-two h p = rw (uncut s e q h) p
+pub ruleset form-laws = (needs, not-true, not-false, none-formed, none-unformed, one-other, one-formed, two-other, two-second, three-first, three-second, three-third, three-formed, turn-other, turn-formed, second-other, second-formed)
 
-      pub fields-more-two : (e ≡ length s → ⊥) → r ≡ shapeOf g place w (a ∷ take e s ∷ split tab (after s e)) → r ≡ shapeOf g place w (a ∷ split tab s)
-      fields-more-two n p = rw (cut s e q n) p
-
-      module _ (b : Bytes) where
-        pub fields-three : e ≡ length s → r ≡ shapeOf g place w (a ∷ b ∷ s ∷ []) → r ≡ shapeOf g place w (a ∷ b ∷ split tab s)
-        fields-three h p = rw (uncut s e q h) p
-
-pub too-many : (g : Grammar) (place : ℕ) (s : Bytes) (e : ℕ) → e ≡ before tab s → (w : Word) (a b : Bytes) → (e ≡ length s → ⊥) → Unformed 1 place ≡ shapeOf g place w (a ∷ b ∷ split tab s)
-unfolding shapeOf
-too-many g place s e q w a b n = rw (cut s e q n) (more (split tab (after s e)) (split-some tab (after s e)))
-  where
-    more : (ps : List Bytes) → 1 ≤ length ps → notOfForm place ≡ shapeOf g place w (a ∷ b ∷ take e s ∷ ps)
-    more [] h = absurd (omega arith)
-    more (p ∷ ps) h = refl
-
-pub ruleset form-laws = (needs, not-true, not-false, none-formed, none-unformed, one-unformed, one-other, one-formed, two-unformed, two-other, two-second, three-unformed, three-first, three-second, three-third, three-formed, turn-other, turn-formed, second-other, second-formed)
-
-pub ruleset cut-laws = (needs, form-alone, form-fields, fields-one, fields-more, fields-two, fields-more-two, fields-three, too-many, begins, counted)
+pub ruleset cut-laws = (needs, form-alone, form-fields, fields-more, fields-more-two, begins, counted)

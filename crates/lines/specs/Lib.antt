@@ -2,3 +2,4 @@
 pub mod Words
 pub mod Kinds
 pub mod Judging
+pub mod Forms

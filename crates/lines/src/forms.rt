@@ -13,6 +13,7 @@ ghost use lib.ListN.{length, take};
 ghost use Rattle.fields.specs.Pieces.{tab, before, split};
 ghost use Rattle.text.specs.Words.{wordNamed};
 ghost use Rattle.text.specs.Lines.{shapeOf, formOf, second};
+ghost use Rattle.lines.specs.Forms.{oneField, twoFields, threeFields};
 
 // The whole line: its word, which has so many bytes, then the fields after the first tab.
 pub fn form(grammar: Grammar, place: u32, bytes: &[u8], word: Word, end: usize) -> Form
@@ -42,12 +43,9 @@ fn no_field(grammar: Grammar, place: u32, word: Word) -> Form
     Form::Unformed { number: 1, place }
 }
 
-fn one_field(grammar: Grammar, place: u32, word: Word, a: &[u8]) -> Form
-    ensures { λ r. ⌜ r ≡ shapeOf grammar place word (now (a .entry) ∷ []) ⌝ }
+fn one_field(place: u32, word: Word, a: &[u8]) -> Form
+    ensures { λ r. ⌜ r ≡ oneField place word (now (a .entry)) ⌝ }
 {
-    if !words::takes(grammar, word, 1) {
-        return Form::Unformed { number: 1, place };
-    }
     let Field::Number(first) = fields::read_number(a) else {
         return Form::Unformed { number: 1, place };
     };
@@ -88,31 +86,18 @@ fn second_field(place: u32, word: Word, first: u64, b: &[u8]) -> Form
     })
 }
 
-fn two_fields<'a>(grammar: Grammar, place: u32, word: Word, a: &'a [u8], b: &'a [u8]) -> Form
-    ensures { λ r. ⌜ r ≡ shapeOf grammar place word (now (a .entry) ∷ now (b .entry) ∷ []) ⌝ }
+fn two_fields<'a>(place: u32, word: Word, a: &'a [u8], b: &'a [u8]) -> Form
+    ensures { λ r. ⌜ r ≡ twoFields place word (now (a .entry)) (now (b .entry)) ⌝ }
 {
-    if !words::takes(grammar, word, 2) {
-        return Form::Unformed { number: 1, place };
-    }
     let Field::Number(first) = fields::read_number(a) else {
         return Form::Unformed { number: 1, place };
     };
     second_field(place, word, first, b)
 }
 
-fn three_fields<'a>(
-    grammar: Grammar,
-    place: u32,
-    word: Word,
-    a: &'a [u8],
-    b: &'a [u8],
-    c: &'a [u8],
-) -> Form
-    ensures { λ r. ⌜ r ≡ shapeOf grammar place word (now (a .entry) ∷ now (b .entry) ∷ now (c .entry) ∷ []) ⌝ }
+fn three_fields<'a>(place: u32, word: Word, a: &'a [u8], b: &'a [u8], c: &'a [u8]) -> Form
+    ensures { λ r. ⌜ r ≡ threeFields place word (now (a .entry)) (now (b .entry)) (now (c .entry)) ⌝ }
 {
-    if !words::takes(grammar, word, 3) {
-        return Form::Unformed { number: 1, place };
-    }
     let Field::Number(first) = fields::read_number(a) else {
         return Form::Unformed { number: 1, place };
     };
@@ -131,13 +116,16 @@ fn three_fields<'a>(
     })
 }
 
-// One field or more: what stands after the word's tab.
+// One field or more: what stands after the word's tab. The last field that a word takes runs to the line's end: a tab in it makes it no number.
 fn some_fields(grammar: Grammar, place: u32, word: Word, rest: &[u8]) -> Form
     ensures { λ r. ⌜ r ≡ shapeOf grammar place word (split tab (now (rest .entry))) ⌝ }
 {
+    if words::takes(grammar, word, 1) {
+        return one_field(place, word, rest);
+    }
     let end = fields::find(rest, 9);
     if end == rest.len() {
-        return one_field(grammar, place, word, rest);
+        return Form::Unformed { number: 1, place };
     }
     after_one(grammar, place, word, &rest[..end], &rest[end + 1..])
 }
@@ -146,9 +134,12 @@ fn some_fields(grammar: Grammar, place: u32, word: Word, rest: &[u8]) -> Form
 fn after_one<'a>(grammar: Grammar, place: u32, word: Word, a: &'a [u8], rest: &'a [u8]) -> Form
     ensures { λ r. ⌜ r ≡ shapeOf grammar place word (now (a .entry) ∷ split tab (now (rest .entry))) ⌝ }
 {
+    if words::takes(grammar, word, 2) {
+        return two_fields(place, word, a, rest);
+    }
     let end = fields::find(rest, 9);
     if end == rest.len() {
-        return two_fields(grammar, place, word, a, rest);
+        return Form::Unformed { number: 1, place };
     }
     after_two(grammar, place, word, a, &rest[..end], &rest[end + 1..])
 }
@@ -164,9 +155,8 @@ fn after_two<'a>(
 ) -> Form
     ensures { λ r. ⌜ r ≡ shapeOf grammar place word (now (a .entry) ∷ now (b .entry) ∷ split tab (now (rest .entry))) ⌝ }
 {
-    let end = fields::find(rest, 9);
-    if end == rest.len() {
-        return three_fields(grammar, place, word, a, b, rest);
+    if words::takes(grammar, word, 3) {
+        return three_fields(place, word, a, b, rest);
     }
     Form::Unformed { number: 1, place }
 }

@@ -54,13 +54,14 @@ pub enum Kind {
     Nothing,
 }
 
-// How a ciphertext line is done: the level, the reserve that it then has, and the reserves to which its operands come at that level.
-// The last two mean nothing for `in`, which has no operand, and for `out`, which takes its own as it is.
+// How a ciphertext line is done: the level, the reserves to which its operands come at that level, and the reserve that it then has.
+// The operands' mean nothing for `in`, which has no operand, and for `out`, which takes its own as it is.
+// The next line asks for the reserve alone: it stands last, where a copy moves it by itself.
 pub struct Placement {
     pub level: u32,
-    pub reserve: i32,
     pub first: i32,
     pub second: i32,
+    pub reserve: i32,
 }
 
 // What the plan knows of a circuit line: a bare constant, or a ciphertext and how it is done.
