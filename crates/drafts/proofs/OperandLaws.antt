@@ -19,23 +19,19 @@ use Rattle.model.specs.declared.Line.the-variants.{In, Const, Neg, Rot, Add, Mu
 use Rattle.model.specs.declared.Placement.{Placement}
 use Rattle.model.specs.declared.Best.{Best}
 use Rattle.model.specs.declared.Best.the-variants as Bests
-use Rattle.model.specs.Files.{kindAt, isUsable, everyUsable, operands}
+use Rattle.model.specs.Files.{isCircuitWord, kindAt, isUsable, everyUsable, operands}
 use Rattle.model.specs.Plan.{Draft, emit, emitConversion, placementOf, supply, planOne, planTwo, planLine}
 use Rattle.model.proofs.Tests.{and-first, and-second}
 use Rattle.model.proofs.Formed.{usable-below}
 use Rattle.drafts.specs.declared.works.Work.{Work}
 use Rattle.drafts.specs.declared.operands.Operands.{Operands}
 use Rattle.drafts.specs.Works.{workFor, workOf, left, nextOf, restOf, named, worked, Reaches}
-use Rattle.drafts.specs.Operands.{bringsFirst, bringsSecond, lineWith, operandsFor, OperandsReach, leftOf, nextLine, restAfter, lineWorked}
-use Rattle.tables.specs.Operands.{firstOperand, secondOperand}
+use Rattle.drafts.specs.Operands.{bringsFirst, bringsSecond, operandsFor, OperandsReach, leftOf, nextLine, restAfter, lineWorked}
+use Rattle.tables.specs.Operands.{firstOperand, secondOperand, withOperands}
 use Rattle.drafts.proofs.WorkLaws.{reading, worked-more, worked-done, rest-left, few-left, work-supplies}
 
 -- ---- the line with other operands
-module _ (x : Line) (i j : ℕ) where
-  pub line-by : (v y : Line) → x ≡ v → y ≡ lineWith v i j → y ≡ lineWith x i j
-  line-by v y e is = rw e is
-
-pub line-named : (x y : Line) (o : Operands) (i j : ℕ) → i ≡ named (o .first) → j ≡ named (o .second) → y ≡ lineWith x i j → y ≡ lineWith x (named (o .first)) (named (o .second))
+pub line-named : (x y : Line) (o : Operands) (i j : ℕ) → i ≡ named (o .first) → j ≡ named (o .second) → y ≡ withOperands x i j → y ≡ withOperands x (named (o .first)) (named (o .second))
 line-named x y o i j e f is = rw (← e, ← f) is
 
 -- ---- the conversion lines of both
@@ -86,12 +82,12 @@ module _ (h : Header) (x : Line) (own left right : Best) (p : Placement) (e : p 
   operands-are first second t u v w a s is b z js =
       rw (← e, ← a, ← b, ← toZ-ofZ w32 (p .first) s, ← toZ-ofZ w32 (p .second) z, ← is, ← js)
 
-pub ruleset operand-laws = (needs, line-by, line-named, first-left, first-next, first-rest, second-left, second-next, second-rest, constant-placement, first-reach, second-reach, operands-are)
+pub ruleset operand-laws = (needs, line-named, first-left, first-next, first-rest, second-left, second-next, second-rest, constant-placement, first-reach, second-reach, operands-are)
 
 -- ---- one conversion line more
 module _ (x : Line) (o : Operands) where
   abbrev finish : Draft → Draft → Draft
-  finish d e = emit (e .lines) (lineWith x (d .number) (e .number))
+  finish d e = emit (e .lines) (withOperands x (d .number) (e .number))
 
   pub line-worked-more :
       (lines : List Line) → 0 < leftOf o → lineWorked x o lines ≡ lineWorked x (restAfter o (emitConversion lines (nextLine o) .number)) (emitConversion lines (nextLine o) .lines)
@@ -113,7 +109,7 @@ module _ (x : Line) (o : Operands) where
           ∙ ap (finish (record { lines = lines; number = named (o .first) })) (worked-more lines (o .second) (omega arith))
           ∙ sym (ap (λ (d : Draft). finish d (worked (restOf (o .second) (next false .number)) (d .lines))) (worked-done (next false .lines) (o .first) none))
 
-  pub line-worked-done : (lines : List Line) → leftOf o ≤ 0 → lineWorked x o lines ≡ emit lines (lineWith x (named (o .first)) (named (o .second)))
+  pub line-worked-done : (lines : List Line) → leftOf o ≤ 0 → lineWorked x o lines ≡ emit lines (withOperands x (named (o .first)) (named (o .second)))
   unfolding lineWorked
   line-worked-done lines none =
       ap (λ (d : Draft). finish d (worked (o .second) (d .lines))) (worked-done lines (o .first) (omega arith))
@@ -165,19 +161,19 @@ module _ (h : Header) (best : List Best) (numbers : List ℕ) (own left right : 
       emit (e .lines) (word (d .number) (e .number)))
 
   pub line-planned :
-      (x : Line) → T (everyUsable before (operands x)) → (firstOperand x < length before → Looked best numbers (firstOperand x) left m) →
+      (x : Line) → T (isCircuitWord x) → T (everyUsable before (operands x)) → (firstOperand x < length before → Looked best numbers (firstOperand x) left m) →
       (secondOperand x < length before → Looked best numbers (secondOperand x) right n) →
       planLine h best numbers (placementOf own) x lines ≡ lineWorked x (operandsFor h x own left m right n) lines
   unfolding lineWorked operandsFor workOf worked firstOperand secondOperand
-  line-planned In u f g = refl
-  line-planned (Const k) u f g = refl
-  line-planned (Neg a) u f g = one Neg a u f
-  line-planned (Rot a t) u f g = one (λ i. Rot i t) a u f
-  line-planned (Add a b) u f g = two Add a b u f g
-  line-planned (Mul a b) u f g = two Mul a b u f g
-  line-planned (Out a) u f g = ap (λ (i : ℕ). emit lines (Out i)) (f (usable-below before a (and-first (isUsable (kindAt before a)) true u)) .number-is)
-  line-planned (Enc a s e) u f g = refl
-  line-planned (Rs a c) u f g = refl
-  line-planned (Ms a c) u f g = refl
-  line-planned (Us a b) u f g = refl
-  line-planned Free u f g = refl
+  line-planned In word u f g = refl
+  line-planned (Const k) word u f g = refl
+  line-planned (Neg a) word u f g = one Neg a u f
+  line-planned (Rot a t) word u f g = one (λ i. Rot i t) a u f
+  line-planned (Add a b) word u f g = two Add a b u f g
+  line-planned (Mul a b) word u f g = two Mul a b u f g
+  line-planned (Out a) word u f g = ap (λ (i : ℕ). emit lines (Out i)) (f (usable-below before a (and-first (isUsable (kindAt before a)) true u)) .number-is)
+  line-planned (Enc a s e) word u f g = absurd word
+  line-planned (Rs a c) word u f g = absurd word
+  line-planned (Ms a c) word u f g = absurd word
+  line-planned (Us a b) word u f g = absurd word
+  line-planned Free word u f g = absurd word

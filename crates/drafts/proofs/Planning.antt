@@ -13,7 +13,7 @@ use lib.Seq.{take-suc-set, getD-take, length-take-le}
 use Rattle.model.specs.declared.Grammar.the-variants.{Circuit}
 use Rattle.model.specs.declared.Header.{Header}
 use Rattle.model.specs.declared.Line.{Line}
-use Rattle.model.specs.declared.Line.the-variants.{In, Const, Neg, Rot, Add, Mul, Out, Enc, Rs, Ms, Us, Free}
+use Rattle.model.specs.declared.Line.the-variants.{Free}
 use Rattle.model.specs.declared.Best.{Best}
 use Rattle.model.specs.declared.Best.the-variants as Bests
 use Rattle.model.specs.declared.Known.{Known}
@@ -21,22 +21,24 @@ use Rattle.model.specs.Files.{operands, everyUsable, kindAt, isUsable, Table, t
 use Rattle.model.specs.Machine.{finished, run}
 use Rattle.model.specs.Plan.{Draft, bestMachine, placementOf, planLine, planFrom, planLines}
 use Rattle.model.proofs.Tests.{and-first, and-second}
-use Rattle.model.proofs.Formed.{formed-index, well-lines, usable-below}
+use Rattle.model.proofs.Formed.{LineFacts, formed-index, well-lines, usable-below}
 use Rattle.text.proofs.Tables.{table-length}
-use Rattle.tables.specs.Operands.{firstOperand, secondOperand}
-use Rattle.tables.specs.Records.{levelOf, lineOf, linesOf, linesHeld, freeRecords, held}
-use Rattle.tables.proofs.Records.{lineAt, Held, next-line, no-line, free-long}
+use Rattle.tables.specs.Operands.{firstOperand, secondOperand, withOperands}
+use Rattle.tables.specs.Records.{lineOf, linesOf, linesHeld, freeRecords, held}
+use Rattle.tables.proofs.Operands.{level-kept}
+use Rattle.tables.proofs.Records.{free-long}
+use Rattle.tables.proofs.HeldLines.{next-line, no-line, stored-lines}
 use Rattle.drafts.specs.declared.operands.Operands.{Operands}
-use Rattle.drafts.specs.Bests.{bestsOf}
+use Rattle.tables.specs.Bests.{bestsOf}
 use Rattle.drafts.specs.Works.{named}
-use Rattle.drafts.specs.Operands.{lineWith, operandsFor, OperandsReach, leftOf, nextLine, restAfter, lineWorked}
+use Rattle.drafts.specs.Operands.{operandsFor, OperandsReach, leftOf, nextLine, restAfter, lineWorked}
 use Rattle.drafts.proofs.OperandLaws.{line-worked-more, line-worked-done, rest-left-of, few-left-of, Looked, line-planned}
 use Rattle.drafts.proofs.Reached.{operands-reach}
 
 -- what the caller gives
 pub record Given (circuit : Table) (known : List Known) : Type 0 where
   pub formed : TableFormed Circuit circuit
-  pub runs : run (bestMachine (circuit .header)) (tableLines circuit) ≡ finished (bestsOf known (circuit .count))
+  pub runs : run (bestMachine (circuit .header)) (tableLines circuit) ≡ finished (bestsOf (circuit .count) known)
   pub wide : length known ≡ 256
 
 -- The outer loop's invariant: with i circuit lines planned, whose numbers in the schedule are the first i of `numbers`, planning the others
@@ -49,8 +51,8 @@ pub record Planning (circuit : Table) (known : List Known) (schedule : List (Lis
   pub within : i ≤ circuit .count
   pub slots : length numbers ≡ 256
   pub left :
-      planFrom (circuit .header) (bestsOf known (circuit .count)) (take i numbers) (linesHeld schedule number) (drop i (tableLines circuit))
-      ≡ planLines (circuit .header) (bestsOf known (circuit .count)) (tableLines circuit)
+      planFrom (circuit .header) (bestsOf (circuit .count) known) (take i numbers) (linesHeld schedule number) (drop i (tableLines circuit))
+      ≡ planLines (circuit .header) (bestsOf (circuit .count) known) (tableLines circuit)
 
 -- The inner loop's: the conversion lines still to be written, then line x, come to `all`, and there is room for them.
 pub record Bringing (x : Line) (all : Draft) (most : ℕ) (schedule : List (List ℕ)) (number : ℕ) (o : Operands) : Type 0 where
@@ -58,15 +60,6 @@ pub record Bringing (x : Line) (all : Draft) (most : ℕ) (schedule : List (List
   pub fits : number + leftOf o ≤ most
   pub below : most < 1792
   pub same : lineWorked x o (linesHeld schedule number) ≡ all
-
--- ---- a line stored
-one-stored : (schedule : List (List ℕ)) (n : ℕ) (r : List ℕ) → n < length schedule → linesHeld (set schedule n r) (suc n) ≡ linesHeld schedule n ++ (lineOf r ∷ [])
-one-stored [] n r l = absurd (never n l)
-  where
-    never : (n : ℕ) → n < 0 → ⊥
-    never n l = omega arith
-one-stored (q ∷ schedule) zero r l = refl
-one-stored (q ∷ schedule) (suc n) r l = ap (λ (lines : List Line). lineOf q ∷ lines) (one-stored schedule n r (omega arith))
 
 -- ---- the inner loop
 module _ {x : Line} {all : Draft} {most : ℕ} {schedule : List (List ℕ)} {number : ℕ} {o : Operands} (w : Bringing x all most schedule number o) where
@@ -77,7 +70,7 @@ module _ {x : Line} {all : Draft} {most : ℕ} {schedule : List (List ℕ)} {num
   lines-held = length-take-le number (linesOf schedule) (omega (arith, line-room, w .room, length-map schedule lineOf))
 
   stored-more : (r : List ℕ) (y : Line) → lineOf r ≡ y → linesHeld (set schedule number r) (number + 1) ≡ linesHeld schedule number ++ (y ∷ [])
-  stored-more r y e = rw (add-one number) (one-stored schedule number r (omega (arith, line-room, w .room)) ∙ ap (λ (z : Line). linesHeld schedule number ++ (z ∷ [])) e)
+  stored-more r y e = stored-lines schedule number r y (omega (arith, line-room, w .room)) e
 
   pub stored-room : (r : List ℕ) → length (set schedule number r) ≡ 1792
   stored-room r = length-set schedule number r ∙ w .room
@@ -106,7 +99,7 @@ module _ {x : Line} {all : Draft} {most : ℕ} {schedule : List (List ℕ)} {num
 
     -- all of them are stored: the line itself is left
     pub conversions-done :
-        some ≡ false → (y : Line) → y ≡ lineWith x (named (o .first)) (named (o .second)) → all ≡ record { lines = linesHeld schedule number ++ (y ∷ []); number = number }
+        some ≡ false → (y : Line) → y ≡ withOperands x (named (o .first)) (named (o .second)) → all ≡ record { lines = linesHeld schedule number ++ (y ∷ []); number = number }
     conversions-done none y is =
         sym (w .same) ∙ line-worked-done x o (linesHeld schedule number) (ltb-false 0 (leftOf o) (sym tested ∙ none))
         ∙ (λ i. record { lines = linesHeld schedule number ++ (sym is i ∷ []); number = lines-held i })
@@ -138,16 +131,16 @@ module _ {circuit : Table} {known : List Known} {schedule : List (List ℕ)} {nu
   h = circuit .header
 
   abbrev best : List Best
-  best = bestsOf known (circuit .count)
+  best = bestsOf (circuit .count) known
 
-  circuit-held : Held circuit
-  circuit-held = record { few = omega (arith, w .small); all = w .given .formed .room }
+  few : circuit .count ≤ 1792
+  few = omega (arith, w .small)
 
   lines-in : length (tableLines circuit) ≡ circuit .count
   lines-in = table-length Circuit circuit (w .given .formed)
 
   pub all-planned : circuit .count ≤ i → linesHeld schedule number ≡ planLines h best (tableLines circuit)
-  all-planned end = ap (λ (rest : List Line). planFrom h best (take i numbers) (linesHeld schedule number) rest) (sym (no-line circuit circuit-held i end)) ∙ w .left
+  all-planned end = ap (λ (rest : List Line). planFrom h best (take i numbers) (linesHeld schedule number) rest) (sym (no-line (circuit .lines) (circuit .count) (w .given .formed .room) few i end)) ∙ w .left
 
   pub plan-fits : number ≤ 1792
   plan-fits = omega (arith, w .few, w .within, w .small)
@@ -169,14 +162,17 @@ module _ {circuit : Table} {known : List Known} {schedule : List (List ℕ)} {nu
     before-length = length-take-le i (tableLines circuit) (omega (arith, lines-in))
 
     -- line i, which is x
-    module _ (x : Line) (ex : x ≡ lineAt circuit i) where
+    module _ (x : Line) (ex : x ≡ getD (circuit .lines) i Free) where
       line-is : getD (tableLines circuit) i Free ≡ x
       line-is = getD-take (circuit .count) (circuit .lines) i Free some ∙ sym ex
 
+      facts : LineFacts Circuit h (take i (tableLines circuit)) x
+      facts =
+          subst (LineFacts Circuit h (take i (tableLines circuit))) line-is
+          (formed-index Circuit h (tableLines circuit) (well-lines Circuit h (tableLines circuit) (w .given .formed .lines)) i (omega (arith, lines-in)))
+
       usable : T (everyUsable (take i (tableLines circuit)) (operands x))
-      usable =
-          subst (λ (y : Line). T (everyUsable (take i (tableLines circuit)) (operands y))) line-is
-          (formed-index Circuit h (tableLines circuit) (well-lines Circuit h (tableLines circuit) (w .given .formed .lines)) i (omega (arith, lines-in)) .usable)
+      usable = facts .usable
 
       operand-below : (k : ℕ) → getD (operands x) k 0 ≤ i
       operand-below k = omega (arith, below-usable (take i (tableLines circuit)) (operands x) k usable, before-length)
@@ -218,14 +214,14 @@ module _ {circuit : Table} {known : List Known} {schedule : List (List ℕ)} {nu
         unfolding firstOperand secondOperand
         this-line =
             line-planned h best (take i numbers) (bestAt known i) (bestAt known a) (bestAt known b) (getD numbers a 0) (getD numbers b 0) (take i (tableLines circuit)) (linesHeld schedule number)
-            x usable (looked 0 a ea) (looked 1 b eb)
+            x (facts .word) usable (looked 0 a ea) (looked 1 b eb)
             ∙ ap (λ (p : Operands). lineWorked x p (linesHeld schedule number)) (sym is)
 
         numbers-taken : length (take i numbers) ≡ i
         numbers-taken = length-take-le i numbers (omega (arith, w .slots, index-small))
 
         rest-is : drop i (tableLines circuit) ≡ x ∷ drop (i + 1) (tableLines circuit)
-        rest-is = next-line circuit circuit-held i some ∙ ap (λ (y : Line). y ∷ drop (i + 1) (tableLines circuit)) (sym ex)
+        rest-is = next-line (circuit .lines) (circuit .count) (w .given .formed .room) few i some ∙ ap (λ (y : Line). y ∷ drop (i + 1) (tableLines circuit)) (sym ex)
 
         abbrev onward : Draft → List Line
         onward d = planFrom h best (take i numbers ++ (d .number ∷ [])) (d .lines) (drop (i + 1) (tableLines circuit))
@@ -243,7 +239,7 @@ module _ {circuit : Table} {known : List Known} {schedule : List (List ℕ)} {nu
         -- the line itself, stored
         pub line-stored :
             (schedule′ : List (List ℕ)) (number′ : ℕ) (o′ : Operands) → Bringing x (lineWorked x o (linesHeld schedule number)) (number + 6) schedule′ number′ o′ →
-            (left : Bool) → left ≡ ltb 0 (leftOf o′) → left ≡ false → (y : Line) → y ≡ lineWith x (named (o′ .first)) (named (o′ .second)) → (r : List ℕ) → lineOf r ≡ y →
+            (left : Bool) → left ≡ ltb 0 (leftOf o′) → left ≡ false → (y : Line) → y ≡ withOperands x (named (o′ .first)) (named (o′ .second)) → (r : List ℕ) → lineOf r ≡ y →
             Planning circuit known (set schedule′ number′ r) (number′ + 1) (set numbers i number′) (i + 1)
         line-stored schedule′ number′ o′ v left tested none y line r e =
             let whole = conversions-done v left tested none y line in
@@ -265,23 +261,5 @@ module _ {circuit : Table} {known : List Known} {schedule : List (List ℕ)} {nu
 pub record-below : {header : Header} (records : List (List ℕ)) {size : ℕ} {known : List Known} {schedule : List (List ℕ)} {number : ℕ} {numbers : List ℕ} {i : ℕ} →
     Planning (held header records size) known schedule number numbers i → i < size → i < length records
 record-below records w l = omega (arith, w .small, w .given .formed .room, length-map records lineOf)
-
--- a line keeps its level where its operands are renamed
-level-same : (x : Line) (a b : ℕ) → levelOf (lineWith x a b) ≡ levelOf x
-level-same In a b = refl
-level-same (Const k) a b = refl
-level-same (Neg i) a b = refl
-level-same (Rot i t) a b = refl
-level-same (Add i j) a b = refl
-level-same (Mul i j) a b = refl
-level-same (Out i) a b = refl
-level-same (Enc i s e) a b = refl
-level-same (Rs i c) a b = refl
-level-same (Ms i c) a b = refl
-level-same (Us i c) a b = refl
-level-same Free a b = refl
-
-pub level-kept : (x y : Line) (a b : ℕ) → levelOf x ≤ 65535 → y ≡ lineWith x a b → levelOf y ≤ 65535
-level-kept x y a b few e = omega (arith, ap levelOf e, level-same x a b)
 
 pub ruleset plan-laws = (needs, level-kept, start, record-below, line-room, conversion-less, conversion-stored, all-planned, plan-fits, same-room, index-small, first-small, second-small, operands-given, bringing-start, line-stored)

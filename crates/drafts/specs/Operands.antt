@@ -9,6 +9,7 @@ use Rattle.model.specs.declared.Best.{Best}
 use Rattle.model.specs.declared.Line.{Line}
 use Rattle.model.specs.declared.Line.the-variants.{In, Const, Neg, Rot, Add, Mul, Out, Enc, Rs, Ms, Us, Free}
 use Rattle.model.specs.Plan.{Draft, emit, placementOf}
+use Rattle.tables.specs.Operands.{withOperands}
 use Rattle.drafts.specs.declared.operands.Operands.{Operands}
 use Rattle.drafts.specs.Works.{workOf, left, nextOf, restOf, worked, Reaches}
 
@@ -40,21 +41,6 @@ bringsSecond (Rs a c) = false
 bringsSecond (Ms a c) = false
 bringsSecond (Us a b) = false
 bringsSecond Free = false
-
--- a circuit line with other operands
-abbrev pub lineWith : Line → ℕ → ℕ → Line
-lineWith In i j = In
-lineWith (Const k) i j = Const k
-lineWith (Neg a) i j = Neg i
-lineWith (Rot a t) i j = Rot i t
-lineWith (Add a b) i j = Add i j
-lineWith (Mul a b) i j = Mul i j
-lineWith (Out a) i j = Out i
-lineWith (Enc a s e) i j = Enc a s e
-lineWith (Rs a c) i j = Rs a c
-lineWith (Ms a c) i j = Ms a c
-lineWith (Us a b) i j = Us a b
-lineWith Free i j = Free
 
 -- What is to be written for the operands of line x, done as `own` says: of the two values that it names `left` and `right` are the bests, and
 -- they have these numbers.
@@ -89,4 +75,4 @@ unfoldable pub lineWorked : Line → Operands → List Line → Draft
 lineWorked x o lines =
     let d = worked (o .first) lines in
     let e = worked (o .second) (d .lines) in
-    emit (e .lines) (lineWith x (d .number) (e .number))
+    emit (e .lines) (withOperands x (d .number) (e .number))

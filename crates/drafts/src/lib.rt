@@ -15,7 +15,7 @@ ghost use Rattle.model.specs.Files.{TableFormed};
 ghost use Rattle.model.specs.Machine.{finished, run};
 ghost use Rattle.model.specs.Plan.{bestMachine, placementOf, planLines};
 ghost use Rattle.tables.specs.Records.{linesHeld, freeRecords, held};
-ghost use Rattle.drafts.specs.Bests.{bestsOf};
+ghost use Rattle.tables.specs.Bests.{bestsOf};
 ghost use Rattle.drafts.specs.Operands.{operandsFor, OperandsReach};
 
 // How a line is done, where it is a ciphertext.
@@ -83,9 +83,9 @@ pub fn plan_table(
     schedule: &mut [[u16; 4]],
 ) -> usize
     requires { ⌜ TableFormed Circuit (held header (now circuit) size) ⌝ }
-    requires { ⌜ run (bestMachine header) (linesHeld (now circuit) size) ≡ finished (bestsOf known size) ⌝ }
+    requires { ⌜ run (bestMachine header) (linesHeld (now circuit) size) ≡ finished (bestsOf size known) ⌝ }
     requires { ⌜ now schedule ≡ freeRecords ⌝ }
-    ensures { λ r. ⌜ linesHeld (now (schedule .exit)) r ≡ planLines header (bestsOf known size) (linesHeld (now (circuit .entry)) size) ⌝ }
+    ensures { λ r. ⌜ linesHeld (now (schedule .exit)) r ≡ planLines header (bestsOf size known) (linesHeld (now (circuit .entry)) size) ⌝ }
     ensures few { λ r. ⌜ r ≤ 1792 ⌝ }
 {
     let mut numbers = [0u16; 256];

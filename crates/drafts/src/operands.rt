@@ -5,8 +5,9 @@ use model::Line;
 ghost use mathlib.Core.Path.{_≡_};
 ghost use Prim.Native.Nat.{_≤_};
 ghost use lib.Dec.{ltb};
+ghost use Rattle.tables.specs.Operands.{withOperands};
 ghost use Rattle.tables.specs.Records.{levelOf};
-ghost use Rattle.drafts.specs.Operands.{bringsFirst, bringsSecond, lineWith, leftOf, nextLine, restAfter};
+ghost use Rattle.drafts.specs.Operands.{bringsFirst, bringsSecond, leftOf, nextLine, restAfter};
 ghost use Rattle.drafts.specs.Works.{named};
 
 // What is still to be written for each of a line's operands.
@@ -106,31 +107,11 @@ pub fn rest_of(operands: Operands, number: u16) -> Operands
     }
 }
 
-// A circuit line with other operands.
-pub fn line_with(line: Line, first: u16, second: u16) -> Line
-    ensures { λ r. ⌜ r ≡ lineWith line first second ⌝ }
-{
-    match line {
-        Line::In => Line::In,
-        Line::Const(k) => Line::Const(k),
-        Line::Neg(_) => Line::Neg(first),
-        Line::Rot(_, t) => Line::Rot(first, t),
-        Line::Add(_, _) => Line::Add(first, second),
-        Line::Mul(_, _) => Line::Mul(first, second),
-        Line::Out(_) => Line::Out(first),
-        Line::Enc { of, scale, level } => Line::Enc { of, scale, level },
-        Line::Rs(a, c) => Line::Rs(a, c),
-        Line::Ms(a, c) => Line::Ms(a, c),
-        Line::Us(a, b) => Line::Us(a, b),
-        Line::Free => Line::Free,
-    }
-}
-
 // The line itself, once all conversion lines of its operands are written.
 pub fn line_of(line: Line, operands: Operands) -> Line
-    ensures { λ r. ⌜ r ≡ lineWith line (named (operands .first)) (named (operands .second)) ⌝ }
+    ensures { λ r. ⌜ r ≡ withOperands line (named (operands .first)) (named (operands .second)) ⌝ }
 {
     let first = operands.first;
     let second = operands.second;
-    line_with(line, works::number_of(first), works::number_of(second))
+    tables::with_operands(line, works::number_of(first), works::number_of(second))
 }

@@ -19,7 +19,7 @@ use Rattle.model.proofs.Tests.{below-or-not}
 use Rattle.text.specs.Files.{fileOf}
 use Rattle.tables.specs.Records.{linesOf, linesHeld, held}
 use Rattle.erasing.specs.Comparing.{difference}
-use Rattle.tables.proofs.HeldLines.{next-line, no-line}
+use Rattle.tables.proofs.HeldLines.{records-long, next-line, no-line}
 
 module _ (circuit : List (List ℕ)) (size : ℕ) (erasure : List (List ℕ)) (count : ℕ) where
   -- where the lines differ first, after headers that are the same
@@ -63,6 +63,12 @@ module _ (circuit : List (List ℕ)) (size : ℕ) (erasure : List (List ℕ)) (c
       }
 
   module _ (shorter i : ℕ) (c : Comparing shorter i) where
+    long : length (linesOf circuit) ≡ 1792
+    long = records-long circuit (c .long)
+
+    other-long : length (linesOf erasure) ≡ 1792
+    other-long = records-long erasure (c .other-long)
+
     module _ (inside : i < shorter) where
       pub line-there : i < length circuit
       line-there = omega (arith, c .least, c .long, c .few)
@@ -76,8 +82,8 @@ module _ (circuit : List (List ℕ)) (size : ℕ) (erasure : List (List ℕ)) (c
             ≡ lineDifference
         step =
             rw (
-              next-line circuit size (c .long) (c .few) i (omega (arith, c .least)),
-              next-line erasure count (c .other-long) (c .other-few) i (omega (arith, c .least)),
+              next-line (linesOf circuit) size long (c .few) i (omega (arith, c .least)),
+              next-line (linesOf erasure) count other-long (c .other-few) i (omega (arith, c .least)),
               ← add-one i,
               ← tested,
             )
@@ -101,7 +107,7 @@ module _ (circuit : List (List ℕ)) (size : ℕ) (erasure : List (List ℕ)) (c
     module _ (end : shorter ≤ i) where
       pub all-agree : size ≡ count → Done ≡ lineDifference
       all-agree e =
-          rw (no-line circuit size (c .long) (c .few) i (omega (arith, c .least)), no-line erasure count (c .other-long) (c .other-few) i (omega (arith, c .least)))
+          rw (no-line (linesOf circuit) size long (c .few) i (omega (arith, c .least)), no-line (linesOf erasure) count other-long (c .other-few) i (omega (arith, c .least)))
           at (c .left)
 
       pub length-differs : (size ≡ count → ⊥) → (answer : Answer) → answer ≡ Refused 12 (placeOf i) → answer ≡ lineDifference
@@ -110,8 +116,8 @@ module _ (circuit : List (List ℕ)) (size : ℕ) (erasure : List (List ℕ)) (c
           shorter-circuit : size < count → Refused 12 (placeOf i) ≡ lineDifference
           shorter-circuit l =
               rw (
-                no-line circuit size (c .long) (c .few) i (omega (arith, c .least)),
-                next-line erasure count (c .other-long) (c .other-few) i (omega (arith, c .least, c .most)),
+                no-line (linesOf circuit) size long (c .few) i (omega (arith, c .least)),
+                next-line (linesOf erasure) count other-long (c .other-few) i (omega (arith, c .least, c .most)),
               )
               at (c .left)
 
@@ -119,8 +125,8 @@ module _ (circuit : List (List ℕ)) (size : ℕ) (erasure : List (List ℕ)) (c
           shorter-erasure l =
               let less : count < size = omega (arith, f) in
               rw (
-                next-line circuit size (c .long) (c .few) i (omega (arith, c .least, c .most)),
-                no-line erasure count (c .other-long) (c .other-few) i (omega (arith, c .least)),
+                next-line (linesOf circuit) size long (c .few) i (omega (arith, c .least, c .most)),
+                no-line (linesOf erasure) count other-long (c .other-few) i (omega (arith, c .least)),
               )
               at (c .left)
 

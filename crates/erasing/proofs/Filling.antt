@@ -8,15 +8,18 @@ use borrow.Author.Needs.{needs}
 use lib.ListN.{length, getD, take, drop, set, replicate, length-set, length-replicate}
 use lib.Seq.{length-take-le, take-suc-set}
 use Rattle.model.specs.declared.Line.{Line}
-use Rattle.model.specs.declared.Line.the-variants.{In, Const, Neg, Rot, Add, Mul, Out, Enc, Rs, Ms, Us, Free}
+use Rattle.model.specs.declared.Line.the-variants.{Free}
 use Rattle.model.specs.Services as Services
 use Rattle.model.specs.Services.{kept, madeFrom, fateOf, renumbered, eraseFrom, erase}
 use Rattle.erasing.specs.declared.Fate.{Fate}
 use Rattle.erasing.specs.declared.Fate.the-variants.{Kept, MadeFrom}
 use Rattle.erasing.specs.Renumbering.{meaning}
 use Rattle.tables.specs.Records.{levelOf, lineOf, linesOf, linesHeld, freeRecords}
+use Rattle.tables.specs.Operands.{firstOperand, secondOperand}
+use Rattle.erasing.proofs.LineLaws.{renamed-is}
+use Rattle.tables.proofs.Operands as Operands
 use Rattle.tables.proofs.Records.{free-long}
-use Rattle.tables.proofs.HeldLines.{next-line, no-line, stored-lines}
+use Rattle.tables.proofs.HeldLines.{records-long, next-line, no-line, stored-lines}
 
 -- what is left of the erasure, after lines with these origins, of which so many are kept
 abbrev eraseRest : List ℕ → ℕ → List Line → List Line
@@ -74,7 +77,7 @@ module _
 
   -- every line is read
   pub all-erased : count ≤ i → linesHeld erasure at ≡ erase lines
-  all-erased end = sym (append-nil (linesHeld erasure at)) ∙ (rw (no-line schedule count (f .long) (f .few) i end) at (f .left))
+  all-erased end = sym (append-nil (linesHeld erasure at)) ∙ (rw (no-line (linesOf schedule) count (records-long schedule (f .long)) (f .few) i end) at (f .left))
 
   pub few-kept : at ≤ count
   few-kept = omega (arith, f .fewer, f .most)
@@ -92,7 +95,7 @@ module _
 
     module _ (x : Line) (x-is : x ≡ getD (linesOf schedule) i Free) (fate : Fate) (told : meaning fate ≡ fateOf x) where
       next : linesHeld erasure at ++ eraseRest (take i origins) at (x ∷ drop (i + 1) lines) ≡ erase lines
-      next = rw (next-line schedule count (f .long) (f .few) i inside, ← x-is) at (f .left)
+      next = rw (next-line (linesOf schedule) count (records-long schedule (f .long)) (f .few) i inside, ← x-is) at (f .left)
 
       -- a line that stays
       kept-step :
@@ -107,7 +110,7 @@ module _
             room = length-set erasure at m ∙ f .room;
             wide = length-set origins i at ∙ f .wide;
             left =
-                rw (stored-lines erasure at m (omega (arith, f .fewer, f .few, f .room)), origins-before at, add-one at, append-assoc, holds, is)
+                rw (stored-lines erasure at m y (omega (arith, f .fewer, f .few, f .room)) holds, origins-before at, add-one at, append-assoc, is)
                 (rw (line-kept (take i origins) at x (drop (i + 1) lines) (sym told ∙ ap meaning e)) at next);
           }
 
@@ -140,21 +143,8 @@ module _
         after-struck a e o is p q n = rw (p, q, n) (struck-step a e o is)
 
 -- a line keeps its level where its operands are counted anew
-level-same : (f : List ℕ) (count : ℕ) (x : Line) → levelOf (renumbered f count x) ≡ levelOf x
-level-same f count In = refl
-level-same f count (Const k) = refl
-level-same f count (Neg a) = refl
-level-same f count (Rot a t) = refl
-level-same f count (Add a b) = refl
-level-same f count (Mul a b) = refl
-level-same f count (Out a) = refl
-level-same f count (Enc a s e) = refl
-level-same f count (Rs a c) = refl
-level-same f count (Ms a c) = refl
-level-same f count (Us a b) = refl
-level-same f count Free = refl
-
 pub level-kept : (origins : List ℕ) (count : ℕ) (x y : Line) → levelOf x ≤ 65535 → y ≡ renumbered origins count x → levelOf y ≤ 65535
-level-kept origins count x y few e = omega (arith, ap levelOf e, level-same origins count x)
+level-kept origins count x y few e =
+    let f : ℕ → ℕ = λ o. getD origins o count in Operands.level-kept x y (f (firstOperand x)) (f (secondOperand x)) few (e ∙ sym (renamed-is f x))
 
 pub ruleset filling-laws = (needs, level-kept, as-many, start, all-erased, few-kept, line-there, so-far)

@@ -1,12 +1,11 @@
 -- One line: its fate, its operands and its numbers, by its word. Assumes nothing.
 use Prim.Native.Nat.{ℕ}
-use mathlib.Core.Path.{_≡_, refl, sym}
+use mathlib.Core.Path.{_≡_, refl}
 use borrow.Author.Needs.{needs}
 use Rattle.model.specs.declared.Line.{Line}
 use Rattle.model.specs.declared.Line.the-variants.{In, Const, Neg, Rot, Add, Mul, Out, Enc, Rs, Ms, Us, Free}
 use Rattle.model.specs.Services.{fateOf, renamed}
-use Rattle.erasing.specs.Renumbering.{withOperands}
-use Rattle.tables.specs.Operands.{firstOperand, secondOperand}
+use Rattle.tables.specs.Operands.{firstOperand, secondOperand, withOperands}
 use Rattle.erasing.specs.Comparing.{numbersOf}
 
 -- ---- the fate and the numbers of a line whose word is known
@@ -18,9 +17,6 @@ module _ (x y : Line) (e : x ≡ y) where
   numbers-are = rw e
 
 -- ---- other operands
-pub operands-are : (x y z : Line) (m n : ℕ) → x ≡ y → withOperands y m n ≡ z → z ≡ withOperands x m n
-operands-are x y z m n e is = rw e (sym is)
-
 -- a line is renamed by its operands' new numbers
 pub renamed-is : (f : ℕ → ℕ) (x : Line) → withOperands x (f (firstOperand x)) (f (secondOperand x)) ≡ renamed f x
 unfolding firstOperand secondOperand
@@ -37,4 +33,4 @@ renamed-is f (Ms a c) = refl
 renamed-is f (Us a b) = refl
 renamed-is f Free = refl
 
-pub ruleset line-laws = (needs, fate-is, numbers-are, operands-are)
+pub ruleset line-laws = (needs, fate-is, numbers-are)

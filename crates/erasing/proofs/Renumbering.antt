@@ -7,8 +7,7 @@ use borrow.Author.Needs.{needs}
 use lib.ListN.{length, getD, List·getD-eq-default}
 use Rattle.model.specs.declared.Line.{Line}
 use Rattle.model.specs.Services.{renumbered}
-use Rattle.erasing.specs.Renumbering.{withOperands}
-use Rattle.tables.specs.Operands.{firstOperand, secondOperand}
+use Rattle.tables.specs.Operands.{firstOperand, secondOperand, withOperands}
 use Rattle.erasing.proofs.LineLaws.{renamed-is}
 
 -- ---- the kept line that a line is or was made from

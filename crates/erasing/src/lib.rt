@@ -12,7 +12,7 @@ ghost use Rattle.model.specs.Services.{fateOf, renumbered, erase};
 ghost use Rattle.model.specs.Refused.{sameLine, sameHeader};
 ghost use Rattle.text.specs.Files.{fileOf};
 ghost use Rattle.tables.specs.Records.{lineOf, linesOf, linesHeld, freeRecords, held};
-ghost use Rattle.erasing.specs.Renumbering.{meaning, withOperands};
+ghost use Rattle.erasing.specs.Renumbering.{meaning};
 ghost use Rattle.erasing.specs.Comparing.{numbersOf, difference};
 
 // A line stays, or is struck and was made from the line that it names.
@@ -45,34 +45,6 @@ fn fate_of(line: Line) -> Fate
     }
 }
 
-// The line that names these values instead of its own.
-fn with_operands(line: Line, first: u16, second: u16) -> Line
-    ensures { λ r. ⌜ r ≡ withOperands line first second ⌝ }
-{
-    match line {
-        Line::In => Line::In,
-        Line::Const(k) => Line::Const(k),
-        Line::Neg(_) => Line::Neg(first),
-        Line::Rot(_, amount) => Line::Rot(first, amount),
-        Line::Add(_, _) => Line::Add(first, second),
-        Line::Mul(_, _) => Line::Mul(first, second),
-        Line::Out(_) => Line::Out(first),
-        Line::Enc {
-            of: _,
-            scale,
-            level,
-        } => Line::Enc {
-            of: first,
-            scale: scale,
-            level: level,
-        },
-        Line::Rs(_, levels) => Line::Rs(first, levels),
-        Line::Ms(_, levels) => Line::Ms(first, levels),
-        Line::Us(_, bits) => Line::Us(first, bits),
-        Line::Free => Line::Free,
-    }
-}
-
 // The kept line that a line so far is or was made from, and the count of kept lines where there is no such line.
 fn origin(origins: &[u16], of: u16, count: u16) -> u16
     ensures { λ r. ⌜ r ≡ getD (now (origins .entry)) of count ⌝ }
@@ -92,7 +64,7 @@ fn renumber(origins: &[u16], count: u16, line: Line) -> Line
     let b = tables::second_operand(line);
     let first = origin(origins, a, count);
     let second = origin(origins, b, count);
-    with_operands(line, first, second)
+    tables::with_operands(line, first, second)
 }
 
 // The lines that erasing keeps, renumbered, into records that are free, and how many they are.

@@ -14,7 +14,6 @@ use mir.Val.{Fits}
 use Rattle.fields.specs.Pieces.{Bytes}
 use Rattle.fields.specs.Numbers.{digitsOf}
 use Rattle.fields.specs.Digits.{digitOf, fieldOf, DigitsLeft}
-use Rattle.fields.specs.declared.Field.{Field}
 use Rattle.fields.specs.declared.Field.the-variants.{Number, NoNumber}
 use Rattle.fields.proofs.DigitLaws.{Digit, digits-low, digits-high, digits-next, room}
 

@@ -29,7 +29,8 @@ use Rattle.reader.specs.declared.FileRead.{FileRead}
 use Rattle.reader.specs.Reads.{readTable, readingOf}
 use Rattle.reader.proofs.Answers.{read-refused, read-file, circuit-formed}
 use Rattle.reserves.specs.declared.Walked.{Walked}
-use Rattle.reserves.specs.Walks.{bestsOf, walkOf}
+use Rattle.tables.specs.Bests.{bestsOf}
+use Rattle.reserves.specs.Walks.{walkOf}
 use Rattle.services.specs.declared.Reply.{Reply}
 use Rattle.services.specs.Outcomes.{writes, refuses, answered, planned, planOutcome, leastOutcome, replyOf, Replied}
 use Rattle.services.proofs.Steps.{once-read, once-refused, replied-as, refusal-replied}

@@ -1,5 +1,4 @@
 // What the program prints: the plan of a circuit, or the line of its refusal.
-use services::Reply;
 ghost use Prim.Native.Nat.{_≤_};
 ghost use lib.ListN.{length};
 ghost use Rattle.services.specs.Promises.{ProgramPromise};

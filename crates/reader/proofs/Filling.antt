@@ -2,24 +2,25 @@
 use Prim.Native.Nat.{ℕ, suc, _+_, _≤_, _<_}
 use native.Mathlib.Numerals.{add-one}
 use native.Mathlib.Omega.{arith}
-use mathlib.Core.Path.{_≡_, refl, sym, ap, _∙_, subst}
+use mathlib.Core.Path.{_≡_, refl, sym, ap, _∙_}
 use mathlib.Core.List.{List, [], _∷_, _++_, map-append}
 use borrow.Author.Needs.{needs}
 use borrow.Author.Tests.{ne-eqb}
 use lib.Dec.{T}
-use lib.ListN.{length, take, drop, set, length-drop, length-set, drop-of-length-le}
+use lib.ListN.{length-map, length, take, drop, set, length-drop, length-set, drop-of-length-le}
 use lib.Seq.{length-take-le, drop-drop, take-suc-set}
 use Rattle.fields.specs.Pieces.{Bytes, lineFeed, before, split}
 use Rattle.model.specs.declared.Header.{Header}
 use Rattle.model.specs.declared.Line.{Line}
 use Rattle.model.specs.Scales.{headerInRange}
-use Rattle.model.specs.Files.{kindOf, tableLines}
+use Rattle.model.specs.Files.{kindOf}
 use Rattle.text.specs.declared.Context.{Context}
 use Rattle.text.specs.declared.LineRead.{LineRead}
 use Rattle.text.specs.declared.LineRead.the-variants.{Good, Bad}
 use Rattle.text.specs.Files.{refused, keptCount, onward, readLines, RestFree}
 use Rattle.tables.specs.Records.{levelOf, lineOf, linesOf, linesHeld, freeRecords, held}
-use Rattle.tables.proofs.Records.{free-long, none-stored, stored-is, stored-lines, stored-free}
+use Rattle.tables.proofs.Records.{free-long, none-stored, stored-free}
+use Rattle.tables.proofs.HeldLines.{stored-lines}
 use Rattle.tables.proofs.Levels.{level-few}
 use Rattle.lines.specs.Kinds.{codeOf, codes}
 use Rattle.reader.specs.declared.FileRead.{FileRead}
@@ -131,7 +132,7 @@ module _ {c : Context} {h : Header} {text : Bytes} {records : List (List ℕ)} {
 
       module _ (r : List ℕ) (holds : lineOf r ≡ x) (code : ℕ) (coded : code ≡ codeOf (kindOf x)) (kept′ : ℕ) (counted : kept′ ≡ keptWith kept x) where
         lines-more : linesHeld (set records count r) (count + 1) ≡ linesHeld records count ++ (x ∷ [])
-        lines-more = ap tableLines (stored-is h records count r x holds) ∙ stored-lines (held h records count) x (f .free) line-room
+        lines-more = stored-lines records count r x (omega (arith, line-room, length-map records lineOf, f .free .room)) holds
 
         coded-more : codes (linesHeld records count ++ (x ∷ [])) ≡ take (count + 1) (set kinds count code)
         coded-more =
@@ -146,7 +147,7 @@ module _ {c : Context} {h : Header} {text : Bytes} {records : List (List ℕ)} {
               small = f .small;
               few = omega (arith, lines-held, taken .below);
               long = length-set records count r ∙ f .long;
-              free = subst RestFree (sym (stored-is h records count r x holds)) (stored-free (held h records count) x (f .free));
+              free = stored-free h records count r (f .free);
               wide = length-set kinds count code ∙ f .wide;
               coded = ap codes lines-more ∙ coded-more;
               counted = counted ∙ ap (λ (k : ℕ). keptWith k x) (f .counted) ∙ sym (kept-with (linesHeld records count) x) ∙ ap keptCount (sym lines-more);

@@ -4,7 +4,8 @@ use mathlib.Core.Path.{_≡_, sym, _∙_}
 use borrow.Author.Tests.{eq-eqb, ne-eqb}
 use Rattle.model.specs.declared.Best.{Best}
 use Rattle.model.specs.Machine.{Run, finished, stopped}
-use Rattle.reserves.specs.Walks.{bestsOf, walkOf}
+use Rattle.tables.specs.Bests.{bestsOf}
+use Rattle.reserves.specs.Walks.{walkOf}
 use Rattle.reserves.specs.declared.Walked.{Walked}
 
 module _ (w : Walked) (count : ℕ) {r : Run Best ℕ} (e : walkOf w count ≡ r) where

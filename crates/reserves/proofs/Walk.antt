@@ -28,9 +28,10 @@ use Rattle.model.proofs.Tests.{below-or-not, header-facts}
 use Rattle.reserves.specs.Ranges.{HeaderRanges, SmallBest}
 use Rattle.tables.specs.Operands.{firstOperand, secondOperand}
 use Rattle.tables.specs.Records.{lineOf, held}
-use Rattle.tables.proofs.Records.{lineAt, Held, next-line, no-line}
+use Rattle.tables.proofs.HeldLines.{next-line, no-line}
 use Rattle.reserves.specs.Steps.{stepOf, bestOf, entryOf, bestAfter}
-use Rattle.reserves.specs.Walks.{bestsOf, walkOf}
+use Rattle.tables.specs.Bests.{bestsOf}
+use Rattle.reserves.specs.Walks.{walkOf}
 use Rattle.reserves.specs.declared.Placing.{Placing}
 use Rattle.reserves.specs.declared.Placing.the-variants.{Goes, Stops}
 use Rattle.reserves.proofs.Bounds.{Numbered, constant-small, after-sound}
@@ -143,14 +144,11 @@ walk-start h t known g f wide small =
     }
 
 module _ {h : Header} {t : Table} {known : List Known} {i : ℕ} (w : Walking h t known i) where
-  table-held : Held t
-  table-held = record { few = omega (arith, w .few); all = w .room }
-
   -- every line is walked
   pub walk-done : t .count ≤ i → run (bestMachine h) (tableLines t) ≡ finished (bestsOf (t .count) known)
   walk-done k =
       let same : t .count ≡ i = omega (arith, w .within) in
-      sym (w .left) ∙ rw (no-line t table-held i k, same)
+      sym (w .left) ∙ rw (no-line (t .lines) (t .count) (w .room) (omega (arith, w .few)) i k, same)
 
   pub walk-finished : t .count ≤ i → walkOf (record { number = 0; line = 0; known = known }) (t .count) ≡ run (bestMachine h) (tableLines t)
   walk-finished k = sym (walk-done k)
@@ -167,7 +165,7 @@ pub entry-small : {h : Header} {t : Table} {known : List Known} {i : ℕ} → Wa
 entry-small w a = w .small a
 
 -- one line x, with the entries of its operands at a and b
-module _ {h : Header} {t : Table} {known : List Known} {i : ℕ} (w : Walking h t known i) (l : i < t .count) (x : Line) (ex : x ≡ lineAt t i)
+module _ {h : Header} {t : Table} {known : List Known} {i : ℕ} (w : Walking h t known i) (l : i < t .count) (x : Line) (ex : x ≡ getD (t .lines) i Free)
     (a b : ℕ) (ea : a ≡ min (firstOperand x) i) (eb : b ≡ min (secondOperand x) i)
     (r : Placing) (er : stepOf r ≡ bestAfter h x i (getD known a bare) (getD known b bare)) where
   looked : (c k : ℕ) → c ≡ min k i → entryOf k i (getD known c bare) ≡ getElem? (bestsOf i known) k
@@ -183,7 +181,7 @@ module _ {h : Header} {t : Table} {known : List Known} {i : ℕ} (w : Walking h 
   next : onward h (w .ins) (bestsOf i known) x (drop (i + 1) (tableLines t)) i (stepOf r) ≡ run (bestMachine h) (tableLines t)
   next =
       first-step h (w .ins) (bestsOf i known) x (drop (i + 1) (tableLines t)) i (stepOf r) (sym (bests-long known i (omega (arith, w .few, w .wide)))) stepped
-      ∙ ap (runFrom (bestMachine h) (w .ins) (bestsOf i known)) (ap (λ (y : Line). y ∷ drop (i + 1) (tableLines t)) ex ∙ sym (next-line t (table-held w) i l)) ∙ w .left
+      ∙ ap (runFrom (bestMachine h) (w .ins) (bestsOf i known)) (ap (λ (y : Line). y ∷ drop (i + 1) (tableLines t)) ex ∙ sym (next-line (t .lines) (t .count) (w .room) (omega (arith, w .few)) i l)) ∙ w .left
 
   sound : Outcome Numbered SmallBest (stepOf r)
   sound = rw er (after-sound h (w .ranges) x i (getD known a bare) (getD known b bare) (w .small a) (w .small b))

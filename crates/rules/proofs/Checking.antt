@@ -17,7 +17,7 @@ use Rattle.model.specs.declared.Answer.the-variants.{Done, Refused}
 use Rattle.model.specs.declared.Found.{Found}
 use Rattle.model.specs.declared.Found.the-variants as Founds
 use Rattle.model.specs.Scales.{headerInRange}
-use Rattle.model.specs.Files.{placeOf, inRange, operands, TableFormed}
+use Rattle.model.specs.Files.{placeOf, inRange, TableFormed}
 use Rattle.model.specs.Machine.{Step, goes, stops, Run, finished, stopped, step, countIn, runFrom, run}
 use Rattle.model.specs.Refused.{checkMachine, rulesAnswer}
 use Rattle.model.proofs.Formed.{LineFacts, well-header, well-lines, formed-line}

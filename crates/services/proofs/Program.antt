@@ -1,6 +1,6 @@
 -- What the program prints: a plan's text fits the buffer, so the reply is the plan or a refusal of its own; and the first 3,882 bytes decide.
 -- Assumes nothing.
-use Prim.Native.Nat.{ℕ, _+_, _≤_}
+use Prim.Native.Nat.{ℕ, _≤_}
 use native.Mathlib.Omega.{arith}
 use mathlib.Core.Path.{_≡_, sym, ap, _∙_}
 use mathlib.Core.Bool.{Bool, cond}

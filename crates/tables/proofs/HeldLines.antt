@@ -1,36 +1,38 @@
--- The lines that a table's records hold, without its header: the next one that is read, and one more that is stored. Assumes nothing.
+-- The lines of a table one after another: the next one that is read, and one more that is stored. Assumes nothing.
 use Prim.Native.Nat.{ℕ, zero, suc, _+_, _≤_, _<_}
-use native.Mathlib.Nat.{not-suc-le-zero, le-of-suc-le-suc}
 use native.Mathlib.Numerals.{add-one}
 use native.Mathlib.Omega.{arith}
-use mathlib.Core.Path.{_≡_, refl, ap}
+use mathlib.Core.Path.{_≡_, refl, ap, _∙_}
 use mathlib.Core.List.{List, [], _∷_, _++_}
-use lib.ListN.{length, getD, drop, set, length-map, drop-of-length-le}
-use lib.Seq.{length-take-le, drop-cons, getD-take}
+use lib.ListN.{length, getD, take, drop, set, length-map, drop-of-length-le}
+use lib.Seq.{length-take-le, drop-cons, getD-take, take-suc-set}
 use Rattle.model.specs.declared.Line.{Line}
 use Rattle.model.specs.declared.Line.the-variants.{Free}
 use Rattle.tables.specs.Records.{lineOf, linesOf, linesHeld}
 
 -- ---- reading
-module _ (records : List (List ℕ)) (count : ℕ) (long : length records ≡ 1792) (few : count ≤ 1792) where
-  lines-long : length (linesHeld records count) ≡ count
-  lines-long = length-take-le count (linesOf records) (omega (arith, length-map records lineOf))
+pub records-long : (records : List (List ℕ)) → length records ≡ 1792 → length (linesOf records) ≡ 1792
+records-long records long = length-map records lineOf ∙ long
 
-  pub next-line : (i : ℕ) → i < count → drop i (linesHeld records count) ≡ getD (linesOf records) i Free ∷ drop (i + 1) (linesHeld records count)
-  next-line i l =
-      rw (add-one i, drop-cons (linesHeld records count) i Free (omega (arith, lines-long)), getD-take count (linesOf records) i Free l)
+module _ (lines : List Line) (count : ℕ) (long : length lines ≡ 1792) (few : count ≤ 1792) where
+  lines-long : length (take count lines) ≡ count
+  lines-long = length-take-le count lines (omega arith)
 
-  pub no-line : (i : ℕ) → count ≤ i → drop i (linesHeld records count) ≡ []
-  no-line i l =
-      let past : length (linesHeld records count) ≤ i = omega (arith, lines-long) in
-      drop-of-length-le (linesHeld records count) past
+  pub next-line : (i : ℕ) → i < count → drop i (take count lines) ≡ getD lines i Free ∷ drop (i + 1) (take count lines)
+  next-line i l = rw (add-one i, drop-cons (take count lines) i Free (omega (arith, lines-long)), getD-take count lines i Free l)
+
+  pub no-line : (i : ℕ) → count ≤ i → drop i (take count lines) ≡ []
+  no-line i l = let past : length (take count lines) ≤ i = omega (arith, lines-long) in drop-of-length-le (take count lines) past
 
 -- ---- storing
-stored : (records : List (List ℕ)) (n : ℕ) (m : List ℕ) → n < length records → linesHeld (set records n m) (suc n) ≡ linesHeld records n ++ (lineOf m ∷ [])
-stored [] n m l = absurd (not-suc-le-zero l)
-stored (q ∷ records) zero m l = refl
-stored (q ∷ records) (suc n) m l = ap (λ (ys : List Line). lineOf q ∷ ys) (stored records n m (le-of-suc-le-suc l))
+pub lines-set : (records : List (List ℕ)) (i : ℕ) (r : List ℕ) → linesOf (set records i r) ≡ set (linesOf records) i (lineOf r)
+lines-set [] i r = refl
+lines-set (q ∷ records) zero r = refl
+lines-set (q ∷ records) (suc i) r = ap (λ (l : List Line). lineOf q ∷ l) (lines-set records i r)
 
+-- a record that holds line x, after n others
 pub stored-lines :
-    (records : List (List ℕ)) (n : ℕ) (m : List ℕ) → n < length records → linesHeld (set records n m) (n + 1) ≡ linesHeld records n ++ (lineOf m ∷ [])
-stored-lines records n m l = rw (add-one n) (stored records n m l)
+    (records : List (List ℕ)) (n : ℕ) (r : List ℕ) (x : Line) → n < length records → lineOf r ≡ x →
+    linesHeld (set records n r) (n + 1) ≡ linesHeld records n ++ (x ∷ [])
+stored-lines records n r x l e =
+    rw (add-one n, lines-set records n r, e) (take-suc-set (linesOf records) n x (omega (arith, length-map records lineOf)))

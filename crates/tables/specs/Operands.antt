@@ -2,6 +2,7 @@
 use Prim.Native.Nat.{ℕ}
 use lib.ListN.{getD}
 use Rattle.model.specs.declared.Line.{Line}
+use Rattle.model.specs.declared.Line.the-variants.{In, Const, Neg, Rot, Add, Mul, Out, Enc, Rs, Ms, Us, Free}
 use Rattle.model.specs.Files.{operands}
 
 -- 0 where a line names none
@@ -10,3 +11,18 @@ firstOperand x = getD (operands x) 0 0
 
 unfoldable pub secondOperand : Line → ℕ
 secondOperand x = getD (operands x) 1 0
+
+-- the line that names these values instead of its own
+abbrev pub withOperands : Line → ℕ → ℕ → Line
+withOperands In m n = In
+withOperands (Const k) m n = Const k
+withOperands (Neg a) m n = Neg m
+withOperands (Rot a t) m n = Rot m t
+withOperands (Add a b) m n = Add m n
+withOperands (Mul a b) m n = Mul m n
+withOperands (Out a) m n = Out m
+withOperands (Enc a s e) m n = Enc m s e
+withOperands (Rs a c) m n = Rs m c
+withOperands (Ms a c) m n = Ms m c
+withOperands (Us a b) m n = Us m b
+withOperands Free m n = Free

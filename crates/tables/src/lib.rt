@@ -4,7 +4,7 @@ ghost use mathlib.Core.Path.{_≡_};
 ghost use Prim.Native.Nat.{_≤_, _<_};
 ghost use lib.ListN.{length, getD};
 ghost use Rattle.model.specs.declared.Line.the-variants.{Free};
-ghost use Rattle.tables.specs.Operands.{firstOperand, secondOperand};
+ghost use Rattle.tables.specs.Operands.{firstOperand, secondOperand, withOperands};
 ghost use Rattle.tables.specs.Records.{amountFrom, levelOf, lineFrom, lineOf, linesOf};
 
 // ---- records
@@ -125,5 +125,33 @@ pub fn second_operand(line: Line) -> u16
         Line::Ms(_, _) => 0,
         Line::Us(_, _) => 0,
         Line::Free => 0,
+    }
+}
+
+// The line that names these values instead of its own.
+pub fn with_operands(line: Line, first: u16, second: u16) -> Line
+    ensures { λ r. ⌜ r ≡ withOperands line first second ⌝ }
+{
+    match line {
+        Line::In => Line::In,
+        Line::Const(k) => Line::Const(k),
+        Line::Neg(_) => Line::Neg(first),
+        Line::Rot(_, amount) => Line::Rot(first, amount),
+        Line::Add(_, _) => Line::Add(first, second),
+        Line::Mul(_, _) => Line::Mul(first, second),
+        Line::Out(_) => Line::Out(first),
+        Line::Enc {
+            of: _,
+            scale,
+            level,
+        } => Line::Enc {
+            of: first,
+            scale: scale,
+            level: level,
+        },
+        Line::Rs(_, levels) => Line::Rs(first, levels),
+        Line::Ms(_, levels) => Line::Ms(first, levels),
+        Line::Us(_, bits) => Line::Us(first, bits),
+        Line::Free => Line::Free,
     }
 }

@@ -3,7 +3,7 @@ use Prim.Native.Nat.{ℕ, suc, _-_}
 use mathlib.Core.Bool.{Bool, true, cond, _&&_}
 use mathlib.Core.List.{List, [], _∷_, _++_}
 use mathlib.Core.Path.{_≡_}
-use lib.Dec.{T, ltb, leb, eqb}
+use lib.Dec.{T, ltb, leb}
 use lib.ListN.{length, getD, replicate}
 use Rattle.fields.specs.Pieces.{Bytes, tab, lineFeed, split, sameBytes}
 use Rattle.fields.specs.Numbers.{numberOf}

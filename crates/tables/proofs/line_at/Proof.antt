@@ -1,5 +1,4 @@
 -- `tables::line_at` meets its contract. Assumes nothing.
-use borrow.Author.Needs.{needs}
 use Rattle.tables.proofs.Words.{line-held}
 use borrow.Author.Needs.{needs}
 use Rattle.tables.proofs.line_at.Statement.{statement}

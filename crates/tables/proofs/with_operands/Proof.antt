@@ -1,10 +1,10 @@
--- `drafts::operands::line_with` meets its contract: the word decides; a rotation's amount is read as it was held. Assumes nothing.
-use Rattle.drafts.proofs.OperandLaws.{operand-laws}
-use Rattle.drafts.proofs.operands.line_with.Statement.{statement}
-use Rattle.drafts.proofs.operands.line_with.Tie as tie
+-- `tables::with_operands` meets its contract: one law for each word. Assumes nothing.
+use Rattle.tables.proofs.Operands.{operand-laws}
+use Rattle.tables.proofs.with_operands.Statement.{statement}
+use Rattle.tables.proofs.with_operands.Tie as tie
 
-pub line-with-spec : {M : Type 1} → statement M
-line-with-spec =
+pub with-operands-spec : {M : Type 1} → statement M
+with-operands-spec =
     tie.close
     (tie.spec
     (λ c. search operand-laws)
