@@ -1,4 +1,4 @@
--- How far a search for a byte has come.
+-- How far the code has looked for a byte.
 use Prim.Native.Nat.{ℕ, _+_, _≤_}
 use mathlib.Core.Path.{_≡_}
 use lib.ListN.{length, drop}

@@ -55,7 +55,7 @@ pub enum Kind {
 }
 
 // How a ciphertext line is done: the level, the reserves to which its operands come at that level, and the reserve that it then has.
-// The operands' mean nothing for `in`, which has no operand, and for `out`, which takes its own as it is.
+// The reserves of the operands mean nothing for `in`, which has no operand, and for `out`, which takes its own as it is.
 // The next line asks for the reserve alone: it stands last, where a copy moves it by itself.
 pub struct Placement {
     pub level: u32,

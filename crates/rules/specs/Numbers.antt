@@ -22,6 +22,7 @@ foundIn numbers = foundFrom (getD numbers 0 0) (getD numbers 1 0) (getD numbers 
 unfoldable pub foundAt : List (List ℕ) → ℕ → Found
 foundAt found a = foundIn (getD found a [])
 
+-- all of it in the ranges of a line
 abbrev pub AllSmall : List (List ℕ) → Type 0
 AllSmall found = (a : ℕ) → Small (foundAt found a)
 
