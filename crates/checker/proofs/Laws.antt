@@ -12,11 +12,11 @@ use Rattle.model.specs.declared.Grammar.the-variants.{Circuit}
 use Rattle.model.specs.declared.Answer.{Answer}
 use Rattle.model.specs.declared.Answer.the-variants.{Done, Level, Refused}
 use Rattle.model.specs.declared.Header.{Header}
-use Rattle.model.specs.Files.{File, limit, TableFormed}
+use Rattle.text.specs.Tables.{TableFormed, fileOf}
+use Rattle.model.specs.Files.{File, limit}
 use Rattle.model.specs.Services.{erase, eraseFile}
 use Rattle.model.specs.Refused.{rulesAnswer, check}
-use Rattle.text.specs.Files.{readText, fileOf, circuitContext, scheduleContext, eraseContext}
-use Rattle.text.specs.Write.{fileText}
+use Rattle.text.specs.Files.{readText, circuitContext, scheduleContext, eraseContext, fileText}
 use Rattle.tables.specs.Records.{lineOf, linesHeld, held}
 use Rattle.tables.proofs.Records.{still-long}
 use Rattle.reader.specs.declared.FileRead.{FileRead}
@@ -108,4 +108,20 @@ module _ (schedule out : Bytes) (r : Reply) (file : FileRead) (records : List (L
 pub few-kept : (count kept : ℕ) → kept ≤ count → count ≤ 1792 → kept ≤ 1792
 few-kept count kept a b = omega arith
 
-pub ruleset steps = (needs, still-long, all-long, circuit-formed, schedule-formed, by-rules, by-level, by-difference, few-lines, circuit-unread, schedule-unread, both-read, erase-unread, erased, few-kept)
+pub ruleset steps = (
+  needs,
+  still-long,
+  all-long,
+  circuit-formed,
+  schedule-formed,
+  by-rules,
+  by-level,
+  by-difference,
+  few-lines,
+  circuit-unread,
+  schedule-unread,
+  both-read,
+  erase-unread,
+  erased,
+  few-kept,
+)

@@ -5,9 +5,8 @@ use model::Header;
 use services::Reply;
 ghost use mathlib.Core.Path.{_≡_};
 ghost use Rattle.model.specs.declared.Grammar.the-variants.{Circuit, Schedule};
-ghost use Rattle.model.specs.Files.{TableFormed};
+ghost use Rattle.text.specs.Tables.{TableFormed, fileOf};
 ghost use Rattle.model.specs.Refused.{check};
-ghost use Rattle.text.specs.Files.{fileOf};
 ghost use Rattle.tables.specs.Records.{held};
 ghost use Rattle.services.specs.Outcomes.{checkOutcome, eraseOutcome, replyOf, Replied};
 

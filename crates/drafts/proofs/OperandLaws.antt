@@ -16,11 +16,11 @@ use mir.ValLaws.{toZ-ofZ}
 use Rattle.model.specs.declared.Header.{Header}
 use Rattle.model.specs.declared.Line.{Line}
 use Rattle.model.specs.declared.Line.the-variants.{In, Const, Neg, Rot, Add, Mul, Out, Enc, Rs, Ms, Us, Free}
-use Rattle.model.specs.declared.Placement.{Placement}
+use Rattle.model.specs.declared.Choice.{Choice}
 use Rattle.model.specs.declared.Best.{Best}
 use Rattle.model.specs.declared.Best.the-variants as Bests
 use Rattle.model.specs.Files.{isCircuitWord, kindAt, isUsable, everyUsable, operands}
-use Rattle.model.specs.Plan.{Draft, emit, emitConversion, placementOf, supply, planOne, planTwo, planLine}
+use Rattle.model.specs.Plan.{Draft, emit, choiceOf, supply, planOne, planTwo, planLine}
 use Rattle.model.proofs.Tests.{and-first, and-second}
 use Rattle.model.proofs.Formed.{usable-below}
 use Rattle.drafts.specs.declared.works.Work.{Work}
@@ -31,7 +31,8 @@ use Rattle.tables.specs.Operands.{firstOperand, secondOperand, withOperands}
 use Rattle.drafts.proofs.WorkLaws.{reading, worked-more, worked-done, rest-left, few-left, work-supplies}
 
 -- ---- the line with other operands
-pub line-named : (x y : Line) (o : Operands) (i j : ℕ) → i ≡ named (o .first) → j ≡ named (o .second) → y ≡ withOperands x i j → y ≡ withOperands x (named (o .first)) (named (o .second))
+pub line-named : (x y : Line) (o : Operands) (i j : ℕ) → i ≡ named (o .first) → j ≡ named (o .second) → y ≡ withOperands x i j
+    → y ≡ withOperands x (named (o .first)) (named (o .second))
 line-named x y o i j e f is = rw (← e, ← f) is
 
 -- ---- the conversion lines of both
@@ -63,10 +64,10 @@ module _ (o : Operands) (first : Bool) (e : first ≡ ltb 0 (left (o .first))) w
     second-rest number w is = rw (← e, f, is)
 
 -- ---- how a line is done, and where its operands are brought to
-pub constant-placement : (b : Best) → b ≡ Bests.Constant → record { level = 0; reserve = pos 0; first = pos 0; second = pos 0 } ≡ placementOf b
-constant-placement b e = rw e
+pub constant-choice : (b : Best) → b ≡ Bests.Constant → record { level = 0; reserve = pos 0; first = pos 0; second = pos 0 } ≡ choiceOf b
+constant-choice b e = rw e
 
-module _ (h : Header) (x : Line) (own left right : Best) (p : Placement) (e : p ≡ placementOf own) where
+module _ (h : Header) (x : Line) (own left right : Best) (p : Choice) (e : p ≡ choiceOf own) where
   module _ (R : OperandsReach h x own left right) (brought : Bool) where
     pub first-reach : brought ≡ bringsFirst x → SFits w32 (p .first) → brought ≡ true → Reaches h left (reading (p .first)) (p .level)
     first-reach b s t = rw (toZ-ofZ w32 (p .first) s, e) (R .first (sym b ∙ t))
@@ -82,7 +83,7 @@ module _ (h : Header) (x : Line) (own left right : Best) (p : Placement) (e : p 
   operands-are first second t u v w a s is b z js =
       rw (← e, ← a, ← b, ← toZ-ofZ w32 (p .first) s, ← toZ-ofZ w32 (p .second) z, ← is, ← js)
 
-pub ruleset operand-laws = (needs, line-named, first-left, first-next, first-rest, second-left, second-next, second-rest, constant-placement, first-reach, second-reach, operands-are)
+pub ruleset operand-laws = (needs, line-named, first-left, first-next, first-rest, second-left, second-next, second-rest, constant-choice, first-reach, second-reach, operands-are)
 
 -- ---- one conversion line more
 module _ (x : Line) (o : Operands) where
@@ -90,7 +91,7 @@ module _ (x : Line) (o : Operands) where
   finish d e = emit (e .lines) (withOperands x (d .number) (e .number))
 
   pub line-worked-more :
-      (lines : List Line) → 0 < leftOf o → lineWorked x o lines ≡ lineWorked x (restAfter o (emitConversion lines (nextLine o) .number)) (emitConversion lines (nextLine o) .lines)
+      (lines : List Line) → 0 < leftOf o → lineWorked x o lines ≡ lineWorked x (restAfter o (emit lines (nextLine o) .number)) (emit lines (nextLine o) .lines)
   unfolding nextLine restAfter lineWorked
   line-worked-more lines some = go (ltb 0 (left (o .first))) refl
     where
@@ -98,10 +99,12 @@ module _ (x : Line) (o : Operands) where
       whole d = finish d (worked (o .second) (d .lines))
 
       next : Bool → Draft
-      next b = emitConversion lines (cond b (nextOf (o .first)) (nextOf (o .second)))
+      next b = emit lines (cond b (nextOf (o .first)) (nextOf (o .second)))
 
       go : (b : Bool) → ltb 0 (left (o .first)) ≡ b →
-          whole (worked (o .first) lines) ≡ lineWorked x (cond b (record { first = restOf (o .first) (next b .number); second = o .second }) (record { first = o .first; second = restOf (o .second) (next b .number) })) (next b .lines)
+          whole (worked (o .first) lines) ≡ lineWorked x
+          (cond b (record { first = restOf (o .first) (next b .number); second = o .second }) (record { first = o .first; second = restOf (o .second) (next b .number) }))
+          (next b .lines)
       go true e = ap whole (worked-more lines (o .first) (ltb-true 0 (left (o .first)) e))
       go false e =
           let none : left (o .first) ≤ 0 = ltb-false 0 (left (o .first)) e in
@@ -119,7 +122,8 @@ pub rest-left-of : (o : Operands) (number : ℕ) → 0 < leftOf o → leftOf (re
 unfolding restAfter
 rest-left-of o number some = go (ltb 0 (left (o .first))) refl
   where
-    go : (b : Bool) → ltb 0 (left (o .first)) ≡ b → leftOf (cond b (record { first = restOf (o .first) number; second = o .second }) (record { first = o .first; second = restOf (o .second) number })) + 1 ≡ leftOf o
+    go : (b : Bool) → ltb 0 (left (o .first)) ≡ b
+        → leftOf (cond b (record { first = restOf (o .first) number; second = o .second }) (record { first = o .first; second = restOf (o .second) number })) + 1 ≡ leftOf o
     go true e = omega (arith, rest-left (o .first) number (ltb-true 0 (left (o .first)) e))
     go false e = let none : left (o .first) ≤ 0 = ltb-false 0 (left (o .first)) e in omega (arith, rest-left (o .second) number (omega arith))
 
@@ -140,30 +144,31 @@ module _ (h : Header) (best : List Best) (numbers : List ℕ) (own left right : 
       (λ i. supply h (look .best-is i) r l (record { lines = ls; number = look .number-is i })) ∙ sym (work-supplies h b r l k ls)
 
   one : (word : ℕ → Line) (a : ℕ) → T (isUsable (kindAt before a) && true) → (a < length before → Looked best numbers a left m) →
-      planOne h best numbers (placementOf own) word a lines ≡ (let d = worked (workFor h left (placementOf own .first) (placementOf own .level) m) lines in emit (d .lines) (word (d .number)))
+      planOne h best numbers (choiceOf own) word a lines ≡
+      (let d = worked (workFor h left (choiceOf own .first) (choiceOf own .level) m) lines in emit (d .lines) (word (d .number)))
   one word a u f =
       ap (λ (d : Draft). emit (d .lines) (word (d .number)))
-      (supplied a left m (placementOf own .first) (placementOf own .level) lines (f (usable-below before a (and-first (isUsable (kindAt before a)) true u))))
+      (supplied a left m (choiceOf own .first) (choiceOf own .level) lines (f (usable-below before a (and-first (isUsable (kindAt before a)) true u))))
 
   two : (word : ℕ → ℕ → Line) (a b : ℕ) → T (isUsable (kindAt before a) && (isUsable (kindAt before b) && true)) → (a < length before → Looked best numbers a left m) →
       (b < length before → Looked best numbers b right n) →
-      planTwo h best numbers (placementOf own) word a b lines
-      ≡ (let d = worked (workFor h left (placementOf own .first) (placementOf own .level) m) lines in
-      let e = worked (workFor h right (placementOf own .second) (placementOf own .level) n) (d .lines) in
+      planTwo h best numbers (choiceOf own) word a b lines
+      ≡ (let d = worked (workFor h left (choiceOf own .first) (choiceOf own .level) m) lines in
+      let e = worked (workFor h right (choiceOf own .second) (choiceOf own .level) n) (d .lines) in
       emit (e .lines) (word (d .number) (e .number)))
   two word a b u f g =
       let second = and-second (isUsable (kindAt before a)) (isUsable (kindAt before b) && true) u in
       let look = f (usable-below before a (and-first (isUsable (kindAt before a)) (isUsable (kindAt before b) && true) u)) in
       let look′ = g (usable-below before b (and-first (isUsable (kindAt before b)) true second)) in
       (λ i.
-      let d = supplied a left m (placementOf own .first) (placementOf own .level) lines look i in
-      let e = supplied b right n (placementOf own .second) (placementOf own .level) (d .lines) look′ i in
+      let d = supplied a left m (choiceOf own .first) (choiceOf own .level) lines look i in
+      let e = supplied b right n (choiceOf own .second) (choiceOf own .level) (d .lines) look′ i in
       emit (e .lines) (word (d .number) (e .number)))
 
   pub line-planned :
       (x : Line) → T (isCircuitWord x) → T (everyUsable before (operands x)) → (firstOperand x < length before → Looked best numbers (firstOperand x) left m) →
       (secondOperand x < length before → Looked best numbers (secondOperand x) right n) →
-      planLine h best numbers (placementOf own) x lines ≡ lineWorked x (operandsFor h x own left m right n) lines
+      planLine h best numbers (choiceOf own) x lines ≡ lineWorked x (operandsFor h x own left m right n) lines
   unfolding lineWorked operandsFor workOf worked firstOperand secondOperand
   line-planned In word u f g = refl
   line-planned (Const k) word u f g = refl

@@ -16,10 +16,11 @@ use Rattle.model.specs.declared.Line.{Line}
 use Rattle.model.specs.declared.Line.the-variants.{Free}
 use Rattle.model.specs.declared.Best.{Best}
 use Rattle.model.specs.declared.Best.the-variants as Bests
-use Rattle.model.specs.declared.Known.{Known}
-use Rattle.model.specs.Files.{operands, everyUsable, kindAt, isUsable, Table, tableLines, TableFormed}
+use Rattle.tables.specs.declared.BestEntry.{BestEntry}
+use Rattle.text.specs.Tables.{Table, tableLines, TableFormed}
+use Rattle.model.specs.Files.{operands, everyUsable, kindAt, isUsable}
 use Rattle.model.specs.Machine.{finished, run}
-use Rattle.model.specs.Plan.{Draft, bestMachine, placementOf, planLine, planFrom, planLines}
+use Rattle.model.specs.Plan.{Draft, bestMachine, choiceOf, planLine, planFrom, planLines}
 use Rattle.model.proofs.Tests.{and-first, and-second}
 use Rattle.model.proofs.Formed.{LineFacts, formed-index, well-lines, usable-below}
 use Rattle.text.proofs.Tables.{table-length}
@@ -36,14 +37,14 @@ use Rattle.drafts.proofs.OperandLaws.{line-worked-more, line-worked-don
 use Rattle.drafts.proofs.Reached.{operands-reach}
 
 -- what the caller gives
-pub record Given (circuit : Table) (known : List Known) : Type 0 where
+pub record Given (circuit : Table) (known : List BestEntry) : Type 0 where
   pub formed : TableFormed Circuit circuit
   pub runs : run (bestMachine (circuit .header)) (tableLines circuit) ≡ finished (bestsOf (circuit .count) known)
   pub wide : length known ≡ 256
 
 -- The outer loop's invariant: with i circuit lines planned, whose numbers in the schedule are the first i of `numbers`, planning the others
 -- comes to the whole plan.
-pub record Planning (circuit : Table) (known : List Known) (schedule : List (List ℕ)) (number : ℕ) (numbers : List ℕ) (i : ℕ) : Type 0 where
+pub record Planning (circuit : Table) (known : List BestEntry) (schedule : List (List ℕ)) (number : ℕ) (numbers : List ℕ) (i : ℕ) : Type 0 where
   pub given : Given circuit known
   pub small : circuit .count ≤ 256
   pub room : length schedule ≡ 1792
@@ -105,7 +106,8 @@ module _ {x : Line} {all : Draft} {most : ℕ} {schedule : List (List ℕ)} {num
         ∙ (λ i. record { lines = linesHeld schedule number ++ (sym is i ∷ []); number = lines-held i })
 
 -- ---- the outer loop
-pub start : (circuit : Table) (known : List Known) (schedule : List (List ℕ)) (numbers : List ℕ) → Given circuit known → schedule ≡ freeRecords → length numbers ≡ 256 → Planning circuit known schedule 0 numbers 0
+pub start : (circuit : Table) (known : List BestEntry) (schedule : List (List ℕ)) (numbers : List ℕ) → Given circuit known → schedule ≡ freeRecords → length numbers ≡ 256
+    → Planning circuit known schedule 0 numbers 0
 start circuit known schedule numbers given free slots =
     record {
       given = given;
@@ -118,7 +120,7 @@ start circuit known schedule numbers given free slots =
     }
 
 -- what is known of value a, as the code reads it from its array
-abbrev pub bestAt : List Known → ℕ → Best
+abbrev pub bestAt : List BestEntry → ℕ → Best
 bestAt known a = getD known a (record { best = Bests.Constant }) .best
 
 below-usable : (before : List Line) (named : List ℕ) (k : ℕ) → T (everyUsable before named) → getD named k 0 ≤ length before
@@ -126,7 +128,7 @@ below-usable before [] k u = omega arith
 below-usable before (a ∷ named) zero u = let b = usable-below before a (and-first (isUsable (kindAt before a)) (everyUsable before named) u) in omega arith
 below-usable before (a ∷ named) (suc k) u = below-usable before named k (and-second (isUsable (kindAt before a)) (everyUsable before named) u)
 
-module _ {circuit : Table} {known : List Known} {schedule : List (List ℕ)} {number : ℕ} {numbers : List ℕ} {i : ℕ} (w : Planning circuit known schedule number numbers i) where
+module _ {circuit : Table} {known : List BestEntry} {schedule : List (List ℕ)} {number : ℕ} {numbers : List ℕ} {i : ℕ} (w : Planning circuit known schedule number numbers i) where
   abbrev h : Header
   h = circuit .header
 
@@ -140,7 +142,8 @@ module _ {circuit : Table} {known : List Known} {schedule : List (List ℕ)} {nu
   lines-in = table-length Circuit circuit (w .given .formed)
 
   pub all-planned : circuit .count ≤ i → linesHeld schedule number ≡ planLines h best (tableLines circuit)
-  all-planned end = ap (λ (rest : List Line). planFrom h best (take i numbers) (linesHeld schedule number) rest) (sym (no-line (circuit .lines) (circuit .count) (w .given .formed .room) few i end)) ∙ w .left
+  all-planned end = ap (λ (rest : List Line). planFrom h best (take i numbers) (linesHeld schedule number) rest)
+      (sym (no-line (circuit .lines) (circuit .count) (w .given .formed .room) few i end)) ∙ w .left
 
   pub plan-fits : number ≤ 1792
   plan-fits = omega (arith, w .few, w .within, w .small)
@@ -151,8 +154,8 @@ module _ {circuit : Table} {known : List Known} {schedule : List (List ℕ)} {nu
 
   best-is : (a : ℕ) → a < circuit .count → getD best a Bests.Constant ≡ bestAt known a
   best-is a b =
-      List·getD-map (λ (k : Known). k .best) (take (circuit .count) known) a (record { best = Bests.Constant })
-      ∙ ap (λ (k : Known). k .best) (getD-take (circuit .count) known a (record { best = Bests.Constant }) b)
+      List·getD-map (λ (k : BestEntry). k .best) (take (circuit .count) known) a (record { best = Bests.Constant })
+      ∙ ap (λ (k : BestEntry). k .best) (getD-take (circuit .count) known a (record { best = Bests.Constant }) b)
 
   module _ (some : i < circuit .count) where
     pub index-small : i < 256
@@ -210,10 +213,11 @@ module _ {circuit : Table} {known : List Known} {schedule : List (List ℕ)} {nu
       module _ (a b : ℕ) (ea : a ≡ firstOperand x) (eb : b ≡ secondOperand x) (o : Operands)
           (is : o ≡ operandsFor h x (bestAt known i) (bestAt known a) (getD numbers a 0) (bestAt known b) (getD numbers b 0)) where
         -- the plan's lines for this line are its conversion lines and itself
-        this-line : planLine h best (take i numbers) (placementOf (bestAt known i)) x (linesHeld schedule number) ≡ lineWorked x o (linesHeld schedule number)
+        this-line : planLine h best (take i numbers) (choiceOf (bestAt known i)) x (linesHeld schedule number) ≡ lineWorked x o (linesHeld schedule number)
         unfolding firstOperand secondOperand
         this-line =
-            line-planned h best (take i numbers) (bestAt known i) (bestAt known a) (bestAt known b) (getD numbers a 0) (getD numbers b 0) (take i (tableLines circuit)) (linesHeld schedule number)
+            line-planned h best (take i numbers) (bestAt known i) (bestAt known a) (bestAt known b) (getD numbers a 0) (getD numbers b 0) (take i (tableLines circuit))
+            (linesHeld schedule number)
             x (facts .word) usable (looked 0 a ea) (looked 1 b eb)
             ∙ ap (λ (p : Operands). lineWorked x p (linesHeld schedule number)) (sym is)
 
@@ -232,7 +236,7 @@ module _ {circuit : Table} {known : List Known} {schedule : List (List ℕ)} {nu
         next : onward (lineWorked x o (linesHeld schedule number)) ≡ planLines h best (tableLines circuit)
         next =
             ap onward (sym this-line)
-            ∙ ap (λ (b : Best). onward (planLine h best (take i numbers) (placementOf b) x (linesHeld schedule number))) (sym own-is)
+            ∙ ap (λ (b : Best). onward (planLine h best (take i numbers) (choiceOf b) x (linesHeld schedule number))) (sym own-is)
             ∙ ap (λ (rest : List Line). planFrom h best (take i numbers) (linesHeld schedule number) rest) (sym rest-is)
             ∙ w .left
 
@@ -258,8 +262,25 @@ module _ {circuit : Table} {known : List Known} {schedule : List (List ℕ)} {nu
             }
 
 -- a line that is left has a record
-pub record-below : {header : Header} (records : List (List ℕ)) {size : ℕ} {known : List Known} {schedule : List (List ℕ)} {number : ℕ} {numbers : List ℕ} {i : ℕ} →
+pub record-below : {header : Header} (records : List (List ℕ)) {size : ℕ} {known : List BestEntry} {schedule : List (List ℕ)} {number : ℕ} {numbers : List ℕ} {i : ℕ} →
     Planning (held header records size) known schedule number numbers i → i < size → i < length records
 record-below records w l = omega (arith, w .small, w .given .formed .room, length-map records lineOf)
 
-pub ruleset plan-laws = (needs, level-kept, start, record-below, line-room, conversion-less, conversion-stored, all-planned, plan-fits, same-room, index-small, first-small, second-small, operands-given, bringing-start, line-stored)
+pub ruleset plan-laws = (
+  needs,
+  level-kept,
+  start,
+  record-below,
+  line-room,
+  conversion-less,
+  conversion-stored,
+  all-planned,
+  plan-fits,
+  same-room,
+  index-small,
+  first-small,
+  second-small,
+  operands-given,
+  bringing-start,
+  line-stored,
+)

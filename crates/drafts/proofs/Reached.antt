@@ -16,18 +16,18 @@ use Rattle.model.specs.declared.Header.{Header}
 use Rattle.model.specs.declared.Line.{Line}
 use Rattle.model.specs.declared.Line.the-variants.{In, Const, Neg, Rot, Add, Mul, Out, Enc, Rs, Ms, Us, Free}
 use Rattle.model.specs.declared.Grammar.the-variants.{Circuit}
-use Rattle.model.specs.declared.Placement.{Placement}
+use Rattle.model.specs.declared.Choice.{Choice}
 use Rattle.model.specs.declared.Best.{Best}
 use Rattle.model.specs.declared.Best.the-variants as Bests
-use Rattle.model.specs.Scales.{floor}
+use Rattle.model.specs.Scales.{headroom}
 use Rattle.model.specs.Files.{wellFormed}
 use Rattle.model.specs.Machine.{finished, step, run}
-use Rattle.model.specs.Plan.{smaller, placeInput, placeAt, placeTimesConstant, placeConstantTimes, placeProduct, placed, onCiphertext, bestMachine}
+use Rattle.model.specs.Plan.{smaller, inputChoice, unchangedChoice, timesConstantChoice, constantTimesChoice, productChoice, unlessTooFew, onBest, bestMachine}
 use Rattle.model.proofs.Tests.{HeaderFacts, header-facts}
 use Rattle.model.proofs.Lists.{found-is}
 use Rattle.model.proofs.Outcomes.{Outcome, AnyReason, outcome-operand, Stepped, stepped}
 use Rattle.model.proofs.Formed.{well-header, well-lines}
-use Rattle.model.proofs.Placed.{placed-elim}
+use Rattle.model.proofs.Chosen.{unlessTooFew-elim}
 use Rattle.model.proofs.Supplies.{few-bits, Valid, ValidBest}
 use Rattle.model.proofs.Supplies as Supplies
 use Rattle.model.proofs.Meets.{Meets, meets-one, meets-sum, meets-times-constant, meets-constant-times, meets-product}
@@ -73,51 +73,52 @@ module _ (h : Header) (H : HeaderFacts h) where
     found-reaches : {a : ℕ} {b : Best} → Found a b → (r : ℤ) (l : ℕ) → Valid h H r l → Supplies.Reaches h H b r l → Reaches h (getD best a Bests.Constant) r l
     found-reaches {b = b} f r l v x = subst (λ (b : Best). Reaches h b r l) (sym (f .is)) (reaches b r l (f .valid) v x)
 
-    one : (x : Line) (b : Best) → bringsSecond x ≡ false → Found (firstOperand x) b → Outcome AnyReason (Asked x) (onCiphertext (λ p. placed h (placeAt h (p .reserve))) b)
+    one : (x : Line) (b : Best) → bringsSecond x ≡ false → Found (firstOperand x) b → Outcome AnyReason (Asked x) (onBest (λ p. unlessTooFew h (unchangedChoice h (p .reserve))) b)
     one x Bests.Constant e f = tt
     one x (Bests.Ciphertext q) e f =
-        placed-elim h (placeAt h (q .reserve)) (Outcome AnyReason (Asked x)) tt (λ o.
+        unlessTooFew-elim h (unchangedChoice h (q .reserve)) (Outcome AnyReason (Asked x)) tt (λ o.
         let m = meets-one h H q (f .valid) in
         record { first = λ t. found-reaches f _ _ (m .first) (m .first-reached); second = λ t. never (sym e ∙ t) })
 
     module _ (x : Line) where
-      both : (p : Placement) (b b′ : Best) → Found (firstOperand x) b → Found (secondOperand x) b′ → Meets h H p b b′ → Asked x (Bests.Ciphertext p)
+      both : (p : Choice) (b b′ : Best) → Found (firstOperand x) b → Found (secondOperand x) b′ → Meets h H p b b′ → Asked x (Bests.Ciphertext p)
       both p b b′ f g m =
           record {
             first = λ t. found-reaches f (p .first) (p .level) (m .first) (m .first-reached);
             second = λ t. found-reaches g (p .second) (p .level) (m .second) (m .second-reached);
           }
 
-      in-place : (p : Placement) (b b′ : Best) → Found (firstOperand x) b → Found (secondOperand x) b′ → (pos (floor h) ≤ℤ p .reserve → Meets h H p b b′) → Outcome AnyReason (Asked x) (placed h p)
-      in-place p b b′ f g m = placed-elim h p (Outcome AnyReason (Asked x)) tt (λ o. both p b b′ f g (m o))
+      in-place : (p : Choice) (b b′ : Best) → Found (firstOperand x) b → Found (secondOperand x) b′ → (pos (headroom h) ≤ℤ p .reserve → Meets h H p b b′)
+          → Outcome AnyReason (Asked x) (unlessTooFew h p)
+      in-place p b b′ f g m = unlessTooFew-elim h p (Outcome AnyReason (Asked x)) tt (λ o. both p b b′ f g (m o))
 
       sums : (b b′ : Best) → Found (firstOperand x) b → Found (secondOperand x) b′ → Outcome AnyReason (Asked x) (bestMachine h .add b b′)
       sums Bests.Constant Bests.Constant f g = tt
       sums Bests.Constant (Bests.Ciphertext q) f g =
-          in-place (placeAt h (q .reserve)) Bests.Constant (Bests.Ciphertext q) f g (λ o.
+          in-place (unchangedChoice h (q .reserve)) Bests.Constant (Bests.Ciphertext q) f g (λ o.
           let m = meets-one h H q (g .valid) in
           record { first = m .first; second = m .second; own = m .own; first-reached = tt; second-reached = m .second-reached })
       sums (Bests.Ciphertext q) Bests.Constant f g =
-          in-place (placeAt h (q .reserve)) (Bests.Ciphertext q) Bests.Constant f g (λ o.
+          in-place (unchangedChoice h (q .reserve)) (Bests.Ciphertext q) Bests.Constant f g (λ o.
           let m = meets-one h H q (f .valid) in
           record { first = m .first; second = m .second; own = m .own; first-reached = m .first-reached; second-reached = tt })
       sums (Bests.Ciphertext q) (Bests.Ciphertext q′) f g =
-          in-place (placeAt h (smaller (q .reserve) (q′ .reserve))) (Bests.Ciphertext q) (Bests.Ciphertext q′) f g (λ o. meets-sum h H q q′ (f .valid) (g .valid))
+          in-place (unchangedChoice h (smaller (q .reserve) (q′ .reserve))) (Bests.Ciphertext q) (Bests.Ciphertext q′) f g (λ o. meets-sum h H q q′ (f .valid) (g .valid))
 
       products : (b b′ : Best) → Found (firstOperand x) b → Found (secondOperand x) b′ → Outcome AnyReason (Asked x) (bestMachine h .mul b b′)
       products Bests.Constant Bests.Constant f g = tt
       products Bests.Constant (Bests.Ciphertext q) f g =
-          in-place (placeConstantTimes h (q .reserve)) Bests.Constant (Bests.Ciphertext q) f g (λ o. meets-constant-times h H q (g .valid) o)
+          in-place (constantTimesChoice h (q .reserve)) Bests.Constant (Bests.Ciphertext q) f g (λ o. meets-constant-times h H q (g .valid) o)
       products (Bests.Ciphertext q) Bests.Constant f g =
-          in-place (placeTimesConstant h (q .reserve)) (Bests.Ciphertext q) Bests.Constant f g (λ o. meets-times-constant h H q (f .valid) o)
+          in-place (timesConstantChoice h (q .reserve)) (Bests.Ciphertext q) Bests.Constant f g (λ o. meets-times-constant h H q (f .valid) o)
       products (Bests.Ciphertext q) (Bests.Ciphertext q′) f g =
-          in-place (placeProduct h (q .reserve) (q′ .reserve)) (Bests.Ciphertext q) (Bests.Ciphertext q′) f g (λ o. meets-product h H q q′ (f .valid) (g .valid) o)
+          in-place (productChoice h (q .reserve) (q′ .reserve)) (Bests.Ciphertext q) (Bests.Ciphertext q′) f g (λ o. meets-product h H q q′ (f .valid) (g .valid) o)
 
     -- any line, where `held` are the bests of the lines before it
     module _ (ins : ℕ) (held : List Best) (look : (a : ℕ) (b : Best) → getElem? held a ≡ some b → Found a b) where
       asked : (x : Line) → Outcome AnyReason (Asked x) (step (bestMachine h) ins held x)
       unfolding firstOperand secondOperand
-      asked In = placed-elim h (placeInput h) (Outcome AnyReason (Asked In)) tt (λ o. none In _ refl refl)
+      asked In = unlessTooFew-elim h (inputChoice h) (Outcome AnyReason (Asked In)) tt (λ o. none In _ refl refl)
       asked (Const k) = none (Const k) _ refl refl
       asked (Neg a) = outcome-operand AnyReason (Asked (Neg a)) (bestMachine h) held a _ tt (λ b e. one (Neg a) b refl (look a b e))
       asked (Rot a t) = outcome-operand AnyReason (Asked (Rot a t)) (bestMachine h) held a _ tt (λ b e. one (Rot a t) b refl (look a b e))
@@ -141,11 +142,13 @@ module _ (h : Header) (H : HeaderFacts h) where
 -- each line of the circuit
 pub operands-reach :
     (h : Header) (circuit : List Line) (best : List Best) → T (wellFormed Circuit h circuit) → run (bestMachine h) circuit ≡ finished best → (i : ℕ) → i < length circuit →
-    OperandsReach h (getD circuit i Free) (getD best i Bests.Constant) (getD best (firstOperand (getD circuit i Free)) Bests.Constant) (getD best (secondOperand (getD circuit i Free)) Bests.Constant)
+    OperandsReach h (getD circuit i Free) (getD best i Bests.Constant) (getD best (firstOperand (getD circuit i Free)) Bests.Constant)
+    (getD best (secondOperand (getD circuit i Free)) Bests.Constant)
 operands-reach h circuit best formed runs i below =
     let H = header-facts h (well-header Circuit h circuit formed) in
     let whole = planned h H circuit (well-lines Circuit h circuit formed) runs in
     let at : Stepped (bestMachine h) best (getD circuit i Free) i = stepped (bestMachine h) circuit runs .line i below in
     subst (Asked h H best (getD circuit i Free)) (sym (found-is best i Bests.Constant (at .there)))
     (subst (Outcome AnyReason (Asked h H best (getD circuit i Free))) (at .steps)
-    (asked h H best (at .ins) (at .held) (λ a b e. record { is = found-is best a Bests.Constant (at .among a b e); valid = whole .progress .valid a b (at .among a b e) }) (getD circuit i Free)))
+    (asked h H best (at .ins) (at .held) (λ a b e. record { is = found-is best a Bests.Constant (at .among a b e); valid = whole .progress .valid a b (at .among a b e) })
+    (getD circuit i Free)))

@@ -18,10 +18,10 @@ use Rattle.ints.proofs.Linear.{is-positive, positive-sub}
 use Rattle.model.specs.declared.Header.{Header}
 use Rattle.model.specs.declared.Line.{Line}
 use Rattle.model.specs.declared.Line.the-variants.{Enc, Rs, Ms, Us}
-use Rattle.model.specs.declared.Placement.{Placement}
+use Rattle.model.specs.declared.Choice.{Choice}
 use Rattle.model.specs.declared.Best.{Best}
 use Rattle.model.specs.declared.Best.the-variants as Bests
-use Rattle.model.specs.Plan.{emitConversion, scaleFor, supply}
+use Rattle.model.specs.Plan.{emit, scaleFor, supply}
 use Rattle.drafts.specs.declared.works.Work.{Work}
 use Rattle.drafts.specs.declared.works.Work.the-variants.{Encode, Convert}
 use Rattle.drafts.specs.Works.{asItIs, conversionFor, workFor, workOf, one, left, nextOf, restOf, named, worked, Falls, Source, Reaches}
@@ -90,7 +90,7 @@ module _ (h : Header) (b : Best) (r : ℤ) (l : ℕ) (R : Reaches h b r l) (s : 
         ap (λ (z : ℤ). positive (pos (h .factor * l) -ℤ z)) whole ∙ positive-sub (h .factor * l) (positive r) ∙ ap (λ (n : ℕ). h .factor * l - n) (sym kept) in
         rw (c, scale)
 
-  module _ (p : Placement) (c : b ≡ Bests.Ciphertext p) where
+  module _ (p : Choice) (c : b ≡ Bests.Ciphertext p) where
     falls : Falls p r l
     falls = subst (λ (b : Best). Source h b r l) c (R .source)
 
@@ -203,11 +203,45 @@ module _ (w : Work) where
       unfolding restOf
       rescales-rest v f g is = rw (e, f, g) is
 
-pub ruleset work-laws = (needs, cast-whole, cast-is, cast-fits, switches-below, switches-fit, switches-few, conversion-is, constant-below, constant-work, level-below, levels-few, reserve-whole, reserve-below, distance-few, ciphertext-work, not-brought, is-brought, brought-reaches, encode-left, encode-next, encode-rest, encode-named, convert-named, switches-left, upscale-left, rescales-left, switches-next, upscale-next, rescales-next, switches-rest, upscale-rest, rescales-rest)
+pub ruleset work-laws = (
+  needs,
+  cast-whole,
+  cast-is,
+  cast-fits,
+  switches-below,
+  switches-fit,
+  switches-few,
+  conversion-is,
+  constant-below,
+  constant-work,
+  level-below,
+  levels-few,
+  reserve-whole,
+  reserve-below,
+  distance-few,
+  ciphertext-work,
+  not-brought,
+  is-brought,
+  brought-reaches,
+  encode-left,
+  encode-next,
+  encode-rest,
+  encode-named,
+  convert-named,
+  switches-left,
+  upscale-left,
+  rescales-left,
+  switches-next,
+  upscale-next,
+  rescales-next,
+  switches-rest,
+  upscale-rest,
+  rescales-rest,
+)
 
 -- ---- one line more
 module _ (lines : List Line) where
-  pub worked-more : (w : Work) → 0 < left w → worked w lines ≡ worked (restOf w (emitConversion lines (nextOf w) .number)) (emitConversion lines (nextOf w) .lines)
+  pub worked-more : (w : Work) → 0 < left w → worked w lines ≡ worked (restOf w (emit lines (nextOf w) .number)) (emit lines (nextOf w) .lines)
   unfolding left nextOf restOf worked
   worked-more (Encode a s l) h = refl
   worked-more (Convert a (suc q) b c) h = refl
@@ -260,7 +294,8 @@ few-left (Encode a s l) = omega arith
 few-left (Convert a q b c) = omega (arith, one-most q, one-most b, one-most c)
 
 -- ---- they are the plan's
-pub work-supplies : (h : Header) (b : Best) (r : ℤ) (l number : ℕ) (lines : List Line) → worked (workFor h b r l number) lines ≡ supply h b r l (record { lines = lines; number = number })
+pub work-supplies : (h : Header) (b : Best) (r : ℤ) (l number : ℕ) (lines : List Line)
+    → worked (workFor h b r l number) lines ≡ supply h b r l (record { lines = lines; number = number })
 unfolding workFor worked conversionFor
 work-supplies h Bests.Constant r l number lines = refl
 work-supplies h (Bests.Ciphertext p) r l number lines = refl

@@ -8,7 +8,7 @@ use Rattle.model.specs.declared.Header.{Header}
 use Rattle.model.specs.declared.Best.{Best}
 use Rattle.model.specs.declared.Line.{Line}
 use Rattle.model.specs.declared.Line.the-variants.{In, Const, Neg, Rot, Add, Mul, Out, Enc, Rs, Ms, Us, Free}
-use Rattle.model.specs.Plan.{Draft, emit, placementOf}
+use Rattle.model.specs.Plan.{Draft, emit, choiceOf}
 use Rattle.tables.specs.Operands.{withOperands}
 use Rattle.drafts.specs.declared.operands.Operands.{Operands}
 use Rattle.drafts.specs.Works.{workOf, left, nextOf, restOf, worked, Reaches}
@@ -42,11 +42,11 @@ bringsSecond (Ms a c) = false
 bringsSecond (Us a b) = false
 bringsSecond Free = false
 
--- What is to be written for the operands of line x, done as `own` says: of the two values that it names `left` and `right` are the bests, and
--- they have these numbers.
+-- What is to be written for the operands of line x, done as `own` says: of the two values that it names `left` and `right` are the bests,
+-- and they have these numbers.
 unfoldable pub operandsFor : Header → Line → Best → Best → ℕ → Best → ℕ → Operands
 operandsFor h x own left first right second =
-    let p = placementOf own in
+    let p = choiceOf own in
     record {
       first = workOf h (bringsFirst x) left (p .first) (p .level) first;
       second = workOf h (bringsSecond x) right (p .second) (p .level) second;
@@ -54,8 +54,8 @@ operandsFor h x own left first right second =
 
 -- Each operand that is brought can be brought there.
 pub record OperandsReach (h : Header) (x : Line) (own left right : Best) : Type 0 where
-  pub first : bringsFirst x ≡ true → Reaches h left (placementOf own .first) (placementOf own .level)
-  pub second : bringsSecond x ≡ true → Reaches h right (placementOf own .second) (placementOf own .level)
+  pub first : bringsFirst x ≡ true → Reaches h left (choiceOf own .first) (choiceOf own .level)
+  pub second : bringsSecond x ≡ true → Reaches h right (choiceOf own .second) (choiceOf own .level)
 
 -- how many conversion lines of both are still to be written
 abbrev pub leftOf : Operands → ℕ

@@ -8,10 +8,10 @@ use Rattle.ints.specs.Parts.{positive}
 use Rattle.model.specs.declared.Header.{Header}
 use Rattle.model.specs.declared.Line.{Line}
 use Rattle.model.specs.declared.Line.the-variants.{Enc, Rs, Ms, Us}
-use Rattle.model.specs.declared.Placement.{Placement}
+use Rattle.model.specs.declared.Choice.{Choice}
 use Rattle.model.specs.declared.Best.{Best}
 use Rattle.model.specs.declared.Best.the-variants as Bests
-use Rattle.model.specs.Plan.{Draft, emitConversion, unlessZero, switches, scaleFor}
+use Rattle.model.specs.Plan.{Draft, emit, unlessZero, switches, scaleFor}
 use Rattle.drafts.specs.declared.works.Work.{Work}
 use Rattle.drafts.specs.declared.works.Work.the-variants.{Encode, Convert}
 
@@ -64,12 +64,12 @@ named (Convert a switches upscale rescales) = a
 
 -- all of its lines, after the schedule's lines so far
 unfoldable pub worked : Work → List Line → Draft
-worked (Encode a s l) lines = emitConversion lines (Enc a s l)
+worked (Encode a s l) lines = emit lines (Enc a s l)
 worked (Convert a switches upscale rescales) lines =
     unlessZero Rs rescales (unlessZero Us upscale (unlessZero Ms switches (record { lines = lines; number = a })))
 
 -- A ciphertext that can be brought to reserve r at level l: it has no less of either, and no more than the greatest F·L and L.
-pub record Falls (p : Placement) (r : ℤ) (l : ℕ) : Type 0 where
+pub record Falls (p : Choice) (r : ℤ) (l : ℕ) : Type 0 where
   pub whole : pos 0 ≤ℤ p .reserve
   pub most : positive (p .reserve) ≤ 3600
   pub top : p .level ≤ 60

@@ -4,32 +4,32 @@ pub mod works;
 
 use crate::operands::Operands;
 use model::Best;
+use model::Choice;
 use model::Header;
-use model::Known;
 use model::Line;
-use model::Placement;
+use tables::BestEntry;
 ghost use mathlib.Core.Path.{_≡_};
 ghost use Prim.Native.Nat.{_≤_};
 ghost use Rattle.model.specs.declared.Grammar.the-variants.{Circuit};
-ghost use Rattle.model.specs.Files.{TableFormed};
+ghost use Rattle.text.specs.Tables.{TableFormed};
 ghost use Rattle.model.specs.Machine.{finished, run};
-ghost use Rattle.model.specs.Plan.{bestMachine, placementOf, planLines};
+ghost use Rattle.model.specs.Plan.{bestMachine, choiceOf, planLines};
 ghost use Rattle.tables.specs.Records.{linesHeld, freeRecords, held};
 ghost use Rattle.tables.specs.Bests.{bestsOf};
 ghost use Rattle.drafts.specs.Operands.{operandsFor, OperandsReach};
 
 // How a line is done, where it is a ciphertext.
-fn placement_of(best: Best) -> Placement
-    ensures { λ r. ⌜ r ≡ placementOf best ⌝ }
+fn choice_of(best: Best) -> Choice
+    ensures { λ r. ⌜ r ≡ choiceOf best ⌝ }
 {
     match best {
-        Best::Constant => Placement {
+        Best::Constant => Choice {
             level: 0,
             reserve: 0,
             first: 0,
             second: 0,
         },
-        Best::Ciphertext(placement) => placement,
+        Best::Ciphertext(choice) => choice,
     }
 }
 
@@ -38,33 +38,33 @@ fn placement_of(best: Best) -> Placement
 fn operands_of(
     header: Header,
     line: Line,
-    own: Known,
-    left: Known,
+    own: BestEntry,
+    left: BestEntry,
     first: u16,
-    right: Known,
+    right: BestEntry,
     second: u16,
 ) -> Operands
     requires { ⌜ OperandsReach header line (own .best) (left .best) (right .best) ⌝ }
     ensures { λ r. ⌜ r ≡ operandsFor header line (own .best) (left .best) first (right .best) second ⌝ }
 {
     let best = own.best;
-    let placement = placement_of(best);
+    let choice = choice_of(best);
     let first_best = left.best;
     let second_best = right.best;
     let first_work = works::work_of(
         header,
         operands::brings_first(line),
         first_best,
-        placement.first,
-        placement.level,
+        choice.first,
+        choice.level,
         first,
     );
     let second_work = works::work_of(
         header,
         operands::brings_second(line),
         second_best,
-        placement.second,
-        placement.level,
+        choice.second,
+        choice.level,
         second,
     );
     Operands {
@@ -79,7 +79,7 @@ pub fn plan_table(
     header: Header,
     circuit: &[[u16; 4]],
     size: usize,
-    known: [Known; 256],
+    known: [BestEntry; 256],
     schedule: &mut [[u16; 4]],
 ) -> usize
     requires { ⌜ TableFormed Circuit (held header (now circuit) size) ⌝ }

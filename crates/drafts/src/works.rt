@@ -83,9 +83,9 @@ fn work_for(header: Header, best: Best, reserve: i32, level: u32, number: u16) -
             scale: (header.factor * level - kept) as u16,
             level: level as u16,
         },
-        Best::Ciphertext(placement) => {
-            let distance = bits(placement.reserve) - kept;
-            conversion(header, distance, placement.level - level, number)
+        Best::Ciphertext(choice) => {
+            let distance = bits(choice.reserve) - kept;
+            conversion(header, distance, choice.level - level, number)
         }
     }
 }

@@ -7,10 +7,11 @@ use Rattle.model.specs.declared.Header.{Header}
 use Rattle.model.specs.declared.Line.{Line}
 use Rattle.model.specs.declared.Answer.{Answer}
 use Rattle.model.specs.declared.Answer.the-variants.{Done, Refused}
-use Rattle.model.specs.Files.{File, placeOf}
+use Rattle.rows.specs.Rows.{placeOf}
+use Rattle.model.specs.Files.{File}
 use Rattle.model.specs.Services.{erase, eraseFile}
 use Rattle.model.specs.Refused.{sameLine, sameHeader, compared, rulesAnswer, check}
-use Rattle.text.specs.Files.{fileOf}
+use Rattle.text.specs.Tables.{fileOf}
 use Rattle.tables.specs.Records.{linesHeld, held}
 use Rattle.erasing.specs.Comparing.{difference, afterDifference}
 

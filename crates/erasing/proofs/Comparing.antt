@@ -13,10 +13,10 @@ use Rattle.model.specs.declared.Header.{Header}
 use Rattle.model.specs.declared.Line.the-variants.{Free}
 use Rattle.model.specs.declared.Answer.{Answer}
 use Rattle.model.specs.declared.Answer.the-variants.{Done, Refused}
-use Rattle.model.specs.Files.{placeOf}
+use Rattle.rows.specs.Rows.{placeOf}
 use Rattle.model.specs.Refused.{sameLine, sameHeader, compared}
 use Rattle.model.proofs.Tests.{below-or-not}
-use Rattle.text.specs.Files.{fileOf}
+use Rattle.text.specs.Tables.{fileOf}
 use Rattle.tables.specs.Records.{linesOf, linesHeld, held}
 use Rattle.erasing.specs.Comparing.{difference}
 use Rattle.tables.proofs.HeldLines.{records-long, next-line, no-line}

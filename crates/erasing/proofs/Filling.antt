@@ -23,7 +23,7 @@ use Rattle.tables.proofs.HeldLines.{records-long, next-line, no-line, stored-li
 
 -- what is left of the erasure, after lines with these origins, of which so many are kept
 abbrev eraseRest : List ℕ → ℕ → List Line → List Line
-eraseRest origins count xs = eraseFrom (λ i x. fateOf x) origins count xs
+eraseRest origins count xs = eraseFrom origins count xs
 
 -- The loop's invariant: the records hold what erasing keeps of the schedule's first i lines, and with what it keeps of the rest that is
 -- the whole erasure.

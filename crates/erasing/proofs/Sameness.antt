@@ -1,7 +1,7 @@
 -- Two headers and two lines, number by number. Assumes nothing.
 use Prim.Native.Nat.{ℕ}
 use mathlib.Core.Path.{_≡_, refl, sym, ap, _∙_, subst}
-use mathlib.Core.Bool.{Bool, true, false}
+use mathlib.Core.Bool.{Bool, true, false, _&&_}
 use mathlib.Core.List.{[], _∷_}
 use borrow.Author.Needs.{needs}
 use borrow.Author.Tests.{eq-eqb, ne-eqb, eqb-true, eqb-false}
@@ -19,6 +19,10 @@ use Rattle.erasing.specs.declared.Numbers.{Numbers}
 use Rattle.erasing.specs.Comparing.{numbersOf}
 
 -- ---- headers
+and-true : (b : Bool) → b ≡ (b && true)
+and-true true = refl
+and-true false = refl
+
 module _ (h k : Header) where
   pub other-factor : (h .factor ≡ k .factor → ⊥) → false ≡ sameHeader h k
   other-factor f = rw (ne-eqb (h .factor) (k .factor) f)
@@ -28,7 +32,7 @@ module _ (h k : Header) where
     other-waterline f = rw (eq-eqb (h .factor) (k .factor) e, ne-eqb (h .waterline) (k .waterline) f)
 
     pub by-top : h .waterline ≡ k .waterline → eqb (h .top) (k .top) ≡ sameHeader h k
-    by-top f = rw (eq-eqb (h .factor) (k .factor) e, eq-eqb (h .waterline) (k .waterline) f)
+    by-top f = rw (eq-eqb (h .factor) (k .factor) e, eq-eqb (h .waterline) (k .waterline) f) (and-true (eqb (h .top) (k .top)))
 
 pub ruleset header-laws = (needs, other-factor, other-waterline, by-top)
 

@@ -10,7 +10,7 @@ use lib.Dec.{lit<}
 use lib.IntN.{ℤ, pos, negsuc, natAbs}
 use lib.ListN.{length, getD}
 use Rattle.fields.specs.Pieces.{Bytes}
-use Rattle.fields.specs.Numbers.{longestField, digitsOf, numberOf, minus, plain, amountOf, decimalIn, decimal, amountText}
+use Rattle.fields.specs.Numbers.{longestField, digitsOf, numberOf, afterMinus, withoutMinus, amountOf, decimalIn, decimal, amountText}
 use Rattle.fields.specs.declared.Field.{Field}
 use Rattle.fields.specs.declared.Field.the-variants.{Number, NoNumber}
 use Rattle.fields.specs.declared.Amount.the-variants.{By, NoAmount}
@@ -123,18 +123,18 @@ unfolding amountOf
 amount-long [] h = refl
 amount-long (b ∷ bs) h = simp (lt-leb (length (b ∷ bs)) longestField (omega arith))
 
-pub amount-minus : (bs : Bytes) → length bs ≤ 10 → amountOf (45 ∷ bs) ≡ minus (numberOf bs)
+pub amount-minus : (bs : Bytes) → length bs ≤ 10 → amountOf (45 ∷ bs) ≡ afterMinus (numberOf bs)
 unfolding amountOf
 amount-minus bs h = simp (le-leb (length (45 ∷ bs)) longestField (omega arith))
 
-pub amount-plain : (b : ℕ) (bs : Bytes) → (b ≡ 45 → ⊥) → length bs ≤ 10 → amountOf (b ∷ bs) ≡ plain (numberOf (b ∷ bs))
+pub amount-plain : (b : ℕ) (bs : Bytes) → (b ≡ 45 → ⊥) → length bs ≤ 10 → amountOf (b ∷ bs) ≡ withoutMinus (numberOf (b ∷ bs))
 unfolding amountOf
 amount-plain b bs n h = simp (le-leb (length (b ∷ bs)) longestField (omega arith), ne-eqb b 45 n)
 
-pub minus-zero : minus (Number 0) ≡ NoAmount
+pub minus-zero : afterMinus (Number 0) ≡ NoAmount
 minus-zero = refl
 
-pub minus-more : (n : ℕ) → minus (Number (suc n)) ≡ By (negsuc n)
+pub minus-more : (n : ℕ) → afterMinus (Number (suc n)) ≡ By (negsuc n)
 minus-more n = simp (ne-eqb (suc n) 0 (λ e. omega arith))
 
 -- what an amount that is read says: a number, or a minus and a number that is not zero
@@ -154,12 +154,12 @@ amount-read (b ∷ bs) {t} e =
       | no h ↦ no-amount (sym (amount-long (b ∷ bs) (omega arith)) ∙ e)
     ]
   where
-    negative : (r : Field) → numberOf bs ≡ r → minus r ≡ By t → AmountRead (45 ∷ bs) t
+    negative : (r : Field) → numberOf bs ≡ r → afterMinus r ≡ By t → AmountRead (45 ∷ bs) t
     negative NoNumber q e = no-amount e
     negative (Number zero) q e = no-amount (sym minus-zero ∙ e)
     negative (Number (suc n)) q e = rw (← by-is (sym (minus-more n) ∙ e)) (after-minus q)
 
-    positive : (r : Field) → numberOf (b ∷ bs) ≡ r → plain r ≡ By t → AmountRead (b ∷ bs) t
+    positive : (r : Field) → numberOf (b ∷ bs) ≡ r → withoutMinus r ≡ By t → AmountRead (b ∷ bs) t
     positive NoNumber q e = no-amount e
     positive (Number n) q e = rw (← by-is e) (as-number q)
 
@@ -183,10 +183,10 @@ amount-text-plain n h = go (decimal n) (number-decimal n h) (decimal-digits n) (
   where
     go : (f : Bytes) → numberOf f ≡ Number n → Each Digit f → length f ≤ 11 → amountOf f ≡ By (pos n)
     go [] e ds l = absurd (omega (arith, number-form [] e .some))
-    go (b ∷ bs) e (one d ds) l = amount-plain b bs (λ m. omega arith) (omega arith) ∙ ap plain e
+    go (b ∷ bs) e (one d ds) l = amount-plain b bs (λ m. omega arith) (omega arith) ∙ ap withoutMinus e
 
 pub amount-text-minus : (n : ℕ) → suc n < 10 ^ 10 → amountOf (amountText (negsuc n)) ≡ By (negsuc n)
-amount-text-minus n h = amount-minus (decimal (suc n)) (decimal-length (suc n) 9 h) ∙ ap minus (number-decimal (suc n) (omega arith)) ∙ minus-more n
+amount-text-minus n h = amount-minus (decimal (suc n)) (decimal-length (suc n) 9 h) ∙ ap afterMinus (number-decimal (suc n) (omega arith)) ∙ minus-more n
 
 pub amount-text-some : (t : ℤ) → 1 ≤ length (amountText t)
 amount-text-some (pos n) = decimal-some n

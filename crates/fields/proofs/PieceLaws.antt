@@ -8,7 +8,8 @@ use borrow.Author.Tests.{eq-eqb, ne-eqb}
 use lib.Dec.{T}
 use lib.ListN.{length, take, drop, length-drop}
 use lib.Seq.{take-all}
-use Rattle.fields.specs.Pieces.{Bytes, before, inFront, split, join, sameBytes}
+use Rattle.fields.specs.Places.{before}
+use Rattle.fields.specs.Pieces.{Bytes, inFront, split, join, sameBytes}
 use Rattle.fields.proofs.Each.{Each, none, one, each-append}
 
 -- no byte of a piece is x

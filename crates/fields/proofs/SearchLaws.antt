@@ -1,14 +1,18 @@
--- How a search for a byte goes on, and what it finds. Assumes nothing.
-use Prim.Native.Nat.{ℕ, suc, _+_, _-_, _<_, _≤_}
-use native.Mathlib.Nat.{add-assoc}
+-- How a search for a byte, and one for a byte that is no digit, goes on and what it finds. Assumes nothing.
+use Prim.Native.Nat.{ℕ, suc, _+_, _<_, _≤_}
 use native.Mathlib.Numerals.{add-one}
 use native.Mathlib.Omega.{arith}
+use mathlib.Core.Bool.{false}
 use mathlib.Core.Path.{_≡_}
+use borrow.Author.Needs.{needs}
+use lib.Dec.{eqb}
 use lib.ListN.{length, getD, drop, drop-of-length-le}
 use lib.Seq.{drop-cons}
-use Rattle.fields.specs.Pieces.{Bytes, before}
-use Rattle.fields.specs.Searches.{NoneBefore}
+use Rattle.fields.specs.Pieces.{Bytes}
+use Rattle.fields.specs.Digits.{digitsIn}
+use Rattle.fields.specs.Places.{begins, NoneBefore, DigitsTo, before}
 use Rattle.fields.proofs.PieceLaws.{before-here, before-other}
+use Rattle.fields.proofs.SpanLaws.{digits-in-low, digits-in-high, digits-in-more}
 
 module _ (x : ℕ) (s : Bytes) where
   pub begin : NoneBefore x s 0
@@ -31,35 +35,44 @@ module _ (x : ℕ) (s : Bytes) where
         let none : before x (drop i s) ≡ 0 = rw (drop-of-length-le s h) in
         omega arith
 
-  -- ---- a turn of four bytes
-  module _ (i : ℕ) (p : NoneBefore x s i) (turn : 4 ≤ length s - i) where
-    pub found-first : getD s i 0 ≡ x → i ≡ before x s
-    found-first e = found i p (omega arith) e
+-- ---- the byte at a place
+module _ (x : ℕ) (s : Bytes) (at : ℕ) where
+  pub is-there : at < length s → eqb (getD s at 0) x ≡ begins x (drop at s)
+  unfolding begins
+  is-there h = rw (drop-cons s at 0 h)
 
-    module _ (first : getD s i 0 ≡ x → ⊥) where
-      one : NoneBefore x s (i + 1)
-      one = pass i p (omega arith) first
+  pub is-past : length s ≤ at → false ≡ begins x (drop at s)
+  unfolding begins
+  is-past h = rw (drop-of-length-le s h)
 
-      pub found-second : getD s (i + 1) 0 ≡ x → i + 1 ≡ before x s
-      found-second e = found (i + 1) one (omega arith) e
+-- ---- digits
+module _ (s : Bytes) (at : ℕ) where
+  pub digits-begin : at ≤ length s → DigitsTo s at at
+  digits-begin h = record { within = h; rest = omega arith }
 
-      module _ (second : getD s (i + 1) 0 ≡ x → ⊥) where
-        two : NoneBefore x s (i + 2)
-        two = rw add-assoc at (pass (i + 1) one (omega arith) second)
+  module _ (i : ℕ) (p : DigitsTo s at i) where
+    pub digits-low : i < length s → getD s i 0 < 48 → i ≡ at + digitsIn (drop at s)
+    digits-low h l =
+        let none : digitsIn (drop i s) ≡ 0 = rw (drop-cons s i 0 h) (digits-in-low (getD s i 0) (drop (suc i) s) l) in
+        omega arith
 
-        pub found-third : getD s (i + 2) 0 ≡ x → i + 2 ≡ before x s
-        found-third e = found (i + 2) two (omega arith) e
+    pub digits-high : (most : ℕ) → i < length s → most < getD s i 0 → 57 ≤ most → i ≡ at + digitsIn (drop at s)
+    digits-high most h l above =
+        let none : digitsIn (drop i s) ≡ 0 = rw (drop-cons s i 0 h) (digits-in-high (getD s i 0) (drop (suc i) s) (omega arith)) in
+        omega arith
 
-        module _ (third : getD s (i + 2) 0 ≡ x → ⊥) where
-          three : NoneBefore x s (i + 3)
-          three = rw add-assoc at (pass (i + 2) two (omega arith) third)
+    pub digits-pass : i < length s → 48 ≤ getD s i 0 → getD s i 0 ≤ 57 → DigitsTo s at (i + 1)
+    digits-pass h low high =
+        let more : digitsIn (drop i s) ≡ suc (digitsIn (drop (suc i) s)) =
+        rw (drop-cons s i 0 h) (digits-in-more (getD s i 0) (drop (suc i) s) (record { low = low; high = high })) in
+        rw (add-one i) (record { within = omega arith; rest = omega arith })
 
-          pub found-fourth : getD s (i + 3) 0 ≡ x → i + 3 ≡ before x s
-          found-fourth e = found (i + 3) three (omega arith) e
+    pub digits-last : length s ≤ i → i ≡ at + digitsIn (drop at s)
+    unfolding digitsIn
+    digits-last h =
+        let none : digitsIn (drop i s) ≡ 0 = rw (drop-of-length-le s h) in
+        omega arith
 
-          pub pass-turn : (getD s (i + 3) 0 ≡ x → ⊥) → NoneBefore x s (i + 4)
-          pass-turn fourth = rw add-assoc at (pass (i + 3) three (omega arith) fourth)
+pub ruleset byte-laws = (needs, begin, found, pass, nowhere, is-there, is-past)
 
-pub ruleset byte-laws = (found, pass, nowhere)
-
-pub ruleset turn-laws = (begin, found-first, found-second, found-third, found-fourth, pass-turn)
+pub ruleset digits-laws = (needs, digits-begin, digits-low, digits-high, digits-pass, digits-last)

@@ -1,22 +1,33 @@
--- The digits of a field as the reader computes them: in plain numbers, where one that 11 digits do not reach stands for no number.
-use Prim.Native.Nat.{ℕ, _+_, _-_, _*_, _^_, _≤_}
-use mathlib.Core.Bool.{cond}
-use lib.Dec.{ltb}
+-- What the code uses: the digits that it goes along, and the number that it then reads of them.
+use Prim.Native.Nat.{ℕ, suc, _+_, _*_, _^_, _≤_}
+use mathlib.Core.Bool.{Bool, true, cond, _&&_}
+use mathlib.Core.List.{[], _∷_}
+use lib.Dec.{T, eqb}
 use lib.ListN.{length}
 use Rattle.fields.specs.Pieces.{Bytes}
 use Rattle.fields.specs.Numbers.{isDigit}
-use Rattle.fields.specs.declared.Field.{Field}
-use Rattle.fields.specs.declared.Field.the-variants.{Number, NoNumber}
 
--- the number that a digit stands for, 10 for any other byte
-unfoldable pub digitOf : ℕ → ℕ
-digitOf b = cond (isDigit b) (b - 48) 10
+-- how many digits stand before the first byte that is none, or all of them
+unfoldable pub digitsIn : Bytes → ℕ
+digitsIn [] = 0
+digitsIn (b ∷ bs) = cond (isDigit b) (suc (digitsIn bs)) 0
 
--- the field that a number stands for
-unfoldable pub fieldOf : ℕ → Field
-fieldOf n = cond (ltb n (10 ^ 11)) (Number n) NoNumber
+-- the same with a minus in front, where there is one
+unfoldable pub amountIn : Bytes → ℕ
+amountIn [] = 0
+amountIn (b ∷ bs) = cond (eqb b 45) (suc (digitsIn bs)) (digitsIn (b ∷ bs))
 
--- bytes are left, and whatever digits they are, the number stays below 10 ^ 11; `value` is that of the digits before them
+-- every byte is a digit, but for a minus in front of an amount
+unfoldable pub allDigits : Bytes → Bool
+allDigits [] = true
+allDigits (b ∷ bs) = isDigit b && allDigits bs
+
+unfoldable pub allAmount : Bytes → Bool
+allAmount [] = true
+allAmount (b ∷ bs) = cond (eqb b 45) (allDigits bs) (allDigits (b ∷ bs))
+
+-- digits are left, and whatever they are, the number stays below 10 ^ 11; `value` is that of the digits before them
 pub record DigitsLeft (f : Bytes) (value : ℕ) : Type 0 where
   pub some : 1 ≤ length f
+  pub digits : T (allDigits f)
   pub room : (value + 1) * 10 ^ length f ≤ 10 ^ 11

@@ -1,4 +1,5 @@
 pub mod Pieces
 pub mod Numbers
-pub mod Searches
+-- apart from these, what the code uses
 pub mod Digits
+pub mod Places

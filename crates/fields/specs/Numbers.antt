@@ -33,19 +33,19 @@ numberOf (b ∷ c ∷ bs) =
     cond (eqb b 48) NoNumber (cond (leb (length (b ∷ c ∷ bs)) longestField) (digitsOf (b ∷ c ∷ bs) 0) NoNumber)
 
 -- an amount after a minus, and without one
-abbrev pub minus : Field → Amount
-minus (Number n) = cond (eqb n 0) NoAmount (By (negℤ (pos n)))
-minus NoNumber = NoAmount
+abbrev pub afterMinus : Field → Amount
+afterMinus (Number n) = cond (eqb n 0) NoAmount (By (negℤ (pos n)))
+afterMinus NoNumber = NoAmount
 
-abbrev pub plain : Field → Amount
-plain (Number n) = By (pos n)
-plain NoNumber = NoAmount
+abbrev pub withoutMinus : Field → Amount
+withoutMinus (Number n) = By (pos n)
+withoutMinus NoNumber = NoAmount
 
 -- "a minus stands only before a nonzero rotation"; the minus counts among the 11 bytes
 unfoldable pub amountOf : Bytes → Amount
 amountOf [] = NoAmount
 amountOf (b ∷ bs) =
-    cond (leb (length (b ∷ bs)) longestField) (cond (eqb b 45) (minus (numberOf bs)) (plain (numberOf (b ∷ bs)))) NoAmount
+    cond (leb (length (b ∷ bs)) longestField) (cond (eqb b 45) (afterMinus (numberOf bs)) (withoutMinus (numberOf (b ∷ bs)))) NoAmount
 
 -- the decimal digits of n, its last k if there are more
 unfoldable pub decimalIn : ℕ → ℕ → Bytes

@@ -1,5 +1,5 @@
 -- A text as pieces with a byte between each two: the tab between document 01's fields, and the line feed, after which the next line stands.
-use Prim.Native.Nat.{ℕ, suc}
+use Prim.Native.Nat.{ℕ}
 use mathlib.Core.Bool.{Bool, true, false, cond, _&&_}
 use mathlib.Core.List.{List, [], _∷_, _++_}
 use lib.Dec.{eqb}
@@ -12,11 +12,6 @@ tab = 9
 
 abbrev pub lineFeed : ℕ
 lineFeed = 10
-
--- how many bytes stand before the first byte x, or all of them
-unfoldable pub before : ℕ → Bytes → ℕ
-before x [] = 0
-before x (b ∷ bs) = cond (eqb b x) 0 (suc (before x bs))
 
 -- a byte in front of the first piece
 abbrev pub inFront : ℕ → List Bytes → List Bytes

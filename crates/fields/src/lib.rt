@@ -1,11 +1,13 @@
-// The pieces of a text: where a byte stands, whether two pieces are the same bytes, and which number a field is.
+// A text by its places: where a byte stands, whether two pieces are the same bytes, and the number that stands at a place. A number ends at the
+// first byte that is no digit; whether that byte may stand there is asked by who reads the line.
 ghost use mathlib.Core.Path.{_≡_};
-ghost use Prim.Native.Nat.{_≤_};
-ghost use lib.ListN.{length};
-ghost use Rattle.fields.specs.Pieces.{before, sameBytes};
-ghost use Rattle.fields.specs.Searches.{NoneBefore};
+ghost use Prim.Native.Nat.{_+_, _≤_};
+ghost use lib.Dec.{T};
+ghost use lib.ListN.{length, drop};
+ghost use Rattle.fields.specs.Pieces.{sameBytes};
 ghost use Rattle.fields.specs.Numbers.{digitsOf, numberOf, amountOf};
-ghost use Rattle.fields.specs.Digits.{digitOf, fieldOf, DigitsLeft};
+ghost use Rattle.fields.specs.Digits.{digitsIn, amountIn, allDigits, allAmount, DigitsLeft};
+ghost use Rattle.fields.specs.Places.{begins, numberAt, amountAt, fieldAt, before};
 
 // What a number field is: a number, whatever its range, or none.
 pub enum Field {
@@ -19,37 +21,18 @@ pub enum Amount {
     NoAmount,
 }
 
-// How many bytes of s stand before the first x: four bytes a turn, which is faster, then the rest.
+// What stands at a place: a number and the place past it, or none.
+pub enum FieldAt {
+    Whole { number: i64, end: usize },
+    NoWhole,
+}
+
+// How many bytes of s stand before the first x.
 pub fn find(s: &[u8], x: u8) -> usize
     ensures { λ r. ⌜ r ≡ before x (now (s .entry)) ⌝ }
     ensures within { λ r. ⌜ r ≤ length (now (s .entry)) ⌝ }
 {
     let mut i = 0;
-    while 4 <= s.len() - i {
-        if s[i] == x {
-            return i;
-        }
-        if s[i + 1] == x {
-            return i + 1;
-        }
-        if s[i + 2] == x {
-            return i + 2;
-        }
-        if s[i + 3] == x {
-            return i + 3;
-        }
-        i += 4;
-    }
-    find_from(s, i, x)
-}
-
-// The same where no x stands before start, byte by byte.
-fn find_from(s: &[u8], start: usize, x: u8) -> usize
-    requires { ⌜ NoneBefore x (now s) start ⌝ }
-    ensures { λ r. ⌜ r ≡ before x (now (s .entry)) ⌝ }
-    ensures within { λ r. ⌜ r ≤ length (now (s .entry)) ⌝ }
-{
-    let mut i = start;
     while i < s.len() {
         if s[i] == x {
             return i;
@@ -66,89 +49,92 @@ pub fn same(a: &[u8], b: &[u8]) -> bool
     check::same(a, b)
 }
 
-// More than any number of 11 digits: what stands for no number.
-const NO_NUMBER: u64 = 100000000000;
-
-// The number that a digit stands for, 10 for any other byte.
-fn digit(b: u8) -> u64
-    ensures { λ r. ⌜ r ≡ digitOf b ⌝ }
+// Whether the byte x stands at a place.
+pub fn is_at(s: &[u8], at: usize, x: u8) -> bool
+    ensures { λ r. ⌜ r ≡ begins x (drop at (now (s .entry))) ⌝ }
 {
-    if b < 48 {
-        return 10;
+    if at < s.len() {
+        return s[at] == x;
     }
-    if 57 < b {
-        return 10;
-    }
-    (b - 48) as u64
+    false
 }
 
-// The number of the digits of f, after digits whose number is value, or NO_NUMBER where a byte is none; the digits left fall with each call.
+// The first place from `at` on where no digit stands.
+fn digits_end(s: &[u8], at: usize) -> usize
+    requires { ⌜ at ≤ length (now s) ⌝ }
+    ensures { λ r. ⌜ r ≡ at + digitsIn (drop at (now (s .entry))) ⌝ }
+    ensures within { λ r. ⌜ r ≤ length (now (s .entry)) ⌝ }
+{
+    let mut i = at;
+    while i < s.len() {
+        let b = s[i];
+        if b < 48 {
+            return i;
+        }
+        if 57 < b {
+            return i;
+        }
+        i += 1;
+    }
+    i
+}
+
+// The same, past a minus where one stands.
+fn amount_end(s: &[u8], at: usize) -> usize
+    requires { ⌜ at ≤ length (now s) ⌝ }
+    ensures { λ r. ⌜ r ≡ at + amountIn (drop at (now (s .entry))) ⌝ }
+    ensures within { λ r. ⌜ r ≤ length (now (s .entry)) ⌝ }
+{
+    if is_at(s, at, 45) {
+        return digits_end(s, at + 1);
+    }
+    digits_end(s, at)
+}
+
+// The number of the digits f, after digits whose number is value; the digits left fall with each call.
 fn digits(f: &[u8], value: u64) -> u64
     requires { ⌜ DigitsLeft (now f) value ⌝ }
-    ensures { λ r. ⌜ fieldOf r ≡ digitsOf (now (f .entry)) value ⌝ }
+    ensures { λ r. ⌜ digitsOf (now (f .entry)) value ≡ Field.Number r ⌝ }
 {
-    let first = digit(f[0]);
-    if first == 10 {
-        return NO_NUMBER;
-    }
-    let one = value * 10 + first;
+    let one = value * 10 + ((f[0] - 48) as u64);
     if f.len() == 1 {
         return one;
     }
-    let second = digit(f[1]);
-    if second == 10 {
-        return NO_NUMBER;
-    }
-    let two = one * 10 + second;
+    let two = one * 10 + ((f[1] - 48) as u64);
     if f.len() == 2 {
         return two;
     }
-    let third = digit(f[2]);
-    if third == 10 {
-        return NO_NUMBER;
-    }
-    let three = two * 10 + third;
+    let three = two * 10 + ((f[2] - 48) as u64);
     if f.len() == 3 {
         return three;
     }
     digits(&f[3..], three)
 }
 
-// The number of a field of 1 to 11 digits.
-fn number(f: &[u8]) -> Field
-    requires { ⌜ DigitsLeft (now f) 0 ⌝ }
-    ensures { λ r. ⌜ r ≡ digitsOf (now (f .entry)) 0 ⌝ }
-{
-    let n = digits(f, 0);
-    if n < NO_NUMBER {
-        return Field::Number(n);
-    }
-    Field::NoNumber
-}
-
-// The number that a field is: 1 to 11 digits, and no zero in front of another digit.
-pub fn read_number(f: &[u8]) -> Field
+// The number that digits are: 1 to 11 of them, and no zero in front of another.
+fn read_number(f: &[u8]) -> Field
+    requires { ⌜ T (allDigits (now f)) ⌝ }
     ensures { λ r. ⌜ r ≡ numberOf (now (f .entry)) ⌝ }
 {
     let n = f.len();
-    if 11 < n {
-        return Field::NoNumber;
-    }
     if n == 0 {
         return Field::NoNumber;
     }
-    let b = f[0];
-    if n == 1 {
-        return number(f);
-    }
-    if b == 48 {
+    if 11 < n {
         return Field::NoNumber;
     }
-    number(f)
+    if n == 1 {
+        return Field::Number(digits(f, 0));
+    }
+    if f[0] == 48 {
+        return Field::NoNumber;
+    }
+    Field::Number(digits(f, 0))
 }
 
-// The rotation amount that a field is: at most 11 bytes, a minus only before a number that is not zero.
-pub fn read_amount(f: &[u8]) -> Amount
+// The rotation amount that digits are, with a minus in front or without: at most 11 bytes, a minus only before a number that is not zero.
+fn read_amount(f: &[u8]) -> Amount
+    requires { ⌜ T (allAmount (now f)) ⌝ }
     ensures { λ r. ⌜ r ≡ amountOf (now (f .entry)) ⌝ }
 {
     if f.len() == 0 {
@@ -170,4 +156,42 @@ pub fn read_amount(f: &[u8]) -> Amount
         return Amount::NoAmount;
     };
     Amount::By(n as i64)
+}
+
+// The number that stands at a place.
+fn number_at(s: &[u8], at: usize) -> FieldAt
+    requires { ⌜ at ≤ length (now s) ⌝ }
+    ensures { λ r. ⌜ r ≡ numberAt (now (s .entry)) at ⌝ }
+{
+    let end = digits_end(s, at);
+    let Field::Number(n) = read_number(&s[at..end]) else {
+        return FieldAt::NoWhole;
+    };
+    FieldAt::Whole {
+        number: n as i64,
+        end,
+    }
+}
+
+// The rotation amount that stands at a place.
+fn amount_at(s: &[u8], at: usize) -> FieldAt
+    requires { ⌜ at ≤ length (now s) ⌝ }
+    ensures { λ r. ⌜ r ≡ amountAt (now (s .entry)) at ⌝ }
+{
+    let end = amount_end(s, at);
+    let Amount::By(number) = read_amount(&s[at..end]) else {
+        return FieldAt::NoWhole;
+    };
+    FieldAt::Whole { number, end }
+}
+
+// The number of a field with a sign, or without, that stands at a place.
+pub fn field_at(s: &[u8], at: usize, signed: bool) -> FieldAt
+    requires { ⌜ at ≤ length (now s) ⌝ }
+    ensures { λ r. ⌜ r ≡ fieldAt signed (now (s .entry)) at ⌝ }
+{
+    if signed {
+        return amount_at(s, at);
+    }
+    number_at(s, at)
 }

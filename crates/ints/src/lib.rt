@@ -1,1 +1,1 @@
-// Laws of signed numbers, all in proofs/: this crate has no code and no definition that a contract cites.
+// The parts of a signed number, in specs/, and laws of signed numbers, in proofs/; no code.

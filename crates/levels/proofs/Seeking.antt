@@ -10,19 +10,19 @@ use Rattle.model.specs.declared.Answer.the-variants.{Done, Level, Refused}
 use Rattle.model.specs.declared.Best.{Best}
 use Rattle.model.specs.declared.Grammar.the-variants.{Circuit}
 use Rattle.model.specs.declared.Header.{Header}
-use Rattle.model.specs.declared.Known.{Known}
+use Rattle.tables.specs.declared.BestEntry.{BestEntry}
 use Rattle.model.specs.declared.Line.{Line}
 use Rattle.model.specs.Scales.{withTop}
-use Rattle.model.specs.Files.{placeOf, Table, tableLines, TableFormed}
+use Rattle.rows.specs.Rows.{placeOf}
+use Rattle.text.specs.Tables.{Table, tableLines, TableFormed, fileOf}
 use Rattle.model.specs.Machine.{Run, finished, stopped, run}
 use Rattle.model.specs.Plan.{bestMachine}
 use Rattle.model.specs.Services.{tryLevels, leastLevel}
-use Rattle.text.specs.Files.{fileOf}
 use Rattle.reserves.specs.Ranges.{HeaderRanges, SmallBest}
 use Rattle.reserves.proofs.Walk.{bare, bare-small, Walking, circuit-ranges, walk-start, place-below, entry-small}
 
 -- The invariant of the loop over levels: trying the levels from this one on comes to what trying all of them comes to.
-pub record Seeking (t : Table) (known : List Known) (level : ℕ) : Type 0 where
+pub record Seeking (t : Table) (known : List BestEntry) (level : ℕ) : Type 0 where
   pub formed : TableFormed Circuit t
   pub wide : length known ≡ 256
   pub small : (k : ℕ) → SmallBest (getD known k bare .best)
@@ -33,11 +33,11 @@ pub record Seeking (t : Table) (known : List Known) (level : ℕ) : Type 0 where
   pub left : tryLevels (t .header) (tableLines t) (suc (60 - level)) level last ≡ leastLevel (fileOf t)
 
 -- The invariant of the walk over the lines at a level, which stays.
-pub record Trying (t : Table) (header : Header) (start level : ℕ) (known : List Known) (i : ℕ) : Type 0 where
+pub record Trying (t : Table) (header : Header) (start level : ℕ) (known : List BestEntry) (i : ℕ) : Type 0 where
   pub walking : Walking header t known i
   pub stays : level ≡ start
 
-pub seek-start : (t : Table) (known : List Known) → TableFormed Circuit t → length known ≡ 256 → ((k : ℕ) → SmallBest (getD known k bare .best)) → Seeking t known 1
+pub seek-start : (t : Table) (known : List BestEntry) → TableFormed Circuit t → length known ≡ 256 → ((k : ℕ) → SmallBest (getD known k bare .best)) → Seeking t known 1
 seek-start t known f wide small = record { formed = f; wide = wide; small = small; low = omega arith; high = omega arith; last = Done; left = refl }
 
 -- ---- what a level comes to
@@ -54,7 +54,7 @@ module _ (h : Header) (lines : List Line) (left l : ℕ) where
       same (finished best) = refl
       same (stopped i n) = refl
 
-module _ {t : Table} {known : List Known} {l : ℕ} (s : Seeking t known l) {h : Header} (e : h ≡ withTop (t .header) l) where
+module _ {t : Table} {known : List BestEntry} {l : ℕ} (s : Seeking t known l) {h : Header} (e : h ≡ withTop (t .header) l) where
   top-ranges : HeaderRanges h
   top-ranges =
       let g = circuit-ranges t (s .formed) in
@@ -88,7 +88,7 @@ module _ {t : Table} {known : List Known} {l : ℕ} (s : Seeking t known l) {h :
           rw none at (reached (stopped i n) q)
 
       -- and at one before
-      pub next-level : {later : List Known} → Walking h t later i → (m ≡ 60 → ⊥) → Seeking t later (m + 1)
+      pub next-level : {later : List BestEntry} → Walking h t later i → (m ≡ 60 → ⊥) → Seeking t later (m + 1)
       next-level {later} w k =
           let fewer : 60 - l ≡ suc (60 - (m + 1)) = omega (arith, s .high) in
           let up : suc l ≡ m + 1 = omega arith in
@@ -102,7 +102,7 @@ module _ {t : Table} {known : List Known} {l : ℕ} (s : Seeking t known l) {h :
             left = rw (fewer, up) at (reached (stopped i n) q);
           }
 
-pub try-walks : {t : Table} {h : Header} {start level : ℕ} {known : List Known} {i : ℕ} → Trying t h start level known i → Walking h t known i
+pub try-walks : {t : Table} {h : Header} {start level : ℕ} {known : List BestEntry} {i : ℕ} → Trying t h start level known i → Walking h t known i
 try-walks y = y .walking
 
 pub ruleset seeking = (needs, bare-small, seek-start, try-start, try-walks, place-below, entry-small)

@@ -2,15 +2,14 @@
 use model::Answer;
 use model::Best;
 use model::Header;
-use model::Known;
 use reserves::Placing;
+use tables::BestEntry;
 ghost use mathlib.Core.Path.{_≡_};
 ghost use Rattle.model.specs.declared.Grammar.the-variants.{Circuit};
 ghost use Rattle.model.specs.Scales.{withTop};
-ghost use Rattle.model.specs.Files.{TableFormed};
+ghost use Rattle.text.specs.Tables.{TableFormed, fileOf};
 ghost use Rattle.model.specs.Services.{leastLevel};
 ghost use Rattle.tables.specs.Records.{held};
-ghost use Rattle.text.specs.Files.{fileOf};
 
 // The header with another top level.
 fn with_top(header: Header, level: u32) -> Header
@@ -28,7 +27,7 @@ pub fn least_level(given: Header, circuit: &[[u16; 4]], count: usize) -> Answer
     requires { ⌜ TableFormed Circuit (held given (now circuit) count) ⌝ }
     ensures { λ r. ⌜ r ≡ leastLevel (fileOf (held given (now (circuit .entry)) count)) ⌝ }
 {
-    let mut known = [Known {
+    let mut known = [BestEntry {
         best: Best::Constant,
     }; 256];
     let mut level: u32 = 1;
@@ -51,7 +50,7 @@ pub fn least_level(given: Header, circuit: &[[u16; 4]], count: usize) -> Answer
                     continue 'levels;
                 }
                 Placing::Goes(best) => {
-                    known[i] = Known { best: best };
+                    known[i] = BestEntry { best: best };
                     i += 1;
                 }
             }

@@ -1,228 +1,387 @@
--- Ranges, operands and kinds of a line, by its word. Assumes nothing.
-use Prim.Native.Nat.{ℕ, _+_, _≤_, _<_}
-use native.Mathlib.Decide.{decLt}
+-- Ranges, operands and kinds of a line, by its word and the numbers after it. Assumes nothing.
+use Prim.Native.Nat.{ℕ, zero, suc, _+_, _≤_, _<_}
 use native.Mathlib.Omega.{arith}
 use mathlib.Core.Path.{_≡_, refl, sym, ap, ap₂, _∙_, subst}
-use mathlib.Core.Bool.{Bool, true, false, _&&_}
-use mathlib.Core.List.{List, [], _∷_}
+use mathlib.Core.Bool.{Bool, true, false, cond, not, _&&_, _||_}
+use mathlib.Core.List.{List, [], _∷_, map}
+use mathlib.Core.Option.{some}
 use borrow.Author.Needs.{needs}
-use borrow.Author.Tests.{not-true, not-false, le-leb}
-use lib.Dec.{T, leb, leb→le, lit≤}
-use lib.IntN.{ℤ, pos, negsuc, negℤ}
-use lib.Signed.{leZ}
-use lib.ListN.{length, getD}
+use borrow.Author.Tests.{not-true, not-false}
+use lib.Dec.{T, leb, leb→le}
+use lib.IntN.{ℤ, pos, negsuc, negℤ, natAbs}
+use lib.Signed.{leZ, nonNeg}
+use lib.ListN.{length, getD, length-take}
 use mir.Syntax.{w16, w64}
-use mir.Val.{SFits, toZ, ofZ}
+use mir.Val.{Fits, SFits, toZ, ofZ}
 use mir.ValLaws.{toZ-ofZ}
+use Rattle.ints.specs.Parts.{positive}
+use Rattle.rows.specs.Fields.{Holds, operand, ranged, upToTop, amount}
+use Rattle.rows.specs.Forms.{Said}
+use Rattle.rows.specs.Rows as Rows
+use Rattle.rows.specs.Rows.{placeOf, refused}
+use Rattle.rows.proofs.FieldLaws.{Natural, number, Held, Fields, no-field, field, Bounded, greatest}
 use Rattle.model.specs.declared.Grammar.{Grammar}
-use Rattle.model.specs.declared.Grammar.the-variants.{Circuit, Schedule}
 use Rattle.model.specs.declared.Header.{Header}
-use Rattle.model.specs.declared.Line.{Line}
 use Rattle.model.specs.declared.Kind.{Kind}
-use Rattle.model.specs.Scales.{within, headerInRange}
-use Rattle.model.proofs.Tests.{and-first, and-second, within-facts, header-facts, level-most}
-use Rattle.model.specs.Words.{levelsFrom, levelsTo}
-use Rattle.model.specs.Files.{inRange, operands, kindAt, isUsable, everyUsable, kindsFit}
+use Rattle.model.specs.declared.Kind.the-variants.{Nothing}
+use Rattle.model.specs.declared.Line.{Line}
 use Rattle.model.specs.declared.Word.{Word}
 use Rattle.model.specs.declared.Word.the-variants.{In, Const, Neg, Rot, Add, Mul, Out, Enc, Rs, Ms, Us, NoWord}
-use Rattle.text.specs.declared.Context.{Context}
-use Rattle.text.specs.declared.Shape.{Shape}
-use Rattle.text.specs.declared.LineRead.the-variants.{Good, Bad}
-use Rattle.text.specs.Lines.{lineFor, shapeLine, judged}
-use Rattle.lines.specs.Kinds.{kindCoded, codes}
-use Rattle.lines.proofs.KindLaws.{coded-kind, coded-length, past}
+use Rattle.model.specs.Scales.{headerInRange}
+use Rattle.model.specs.Words.{Asks, noOperand, aCiphertext, aConstant, aPair, entry, sameWord, hasWord}
+use Rattle.model.specs.Files.{said, lineOf, wordOf, rowOf, isWord, inRange, operands, kindAt, isUsable, everyUsable, asksFor, kindsFit}
+use Rattle.model.proofs.Tests.{and-first, and-second, header-facts}
+use Rattle.model.proofs.EveryWord.{every-word, same-word}
+use Rattle.text.proofs.WordLaws.{said-line}
+use Rattle.text.proofs.FormLaws.{line-bounded}
+use Rattle.forms.specs.Along.{numbersIn}
+use Rattle.forms.proofs.TextLaws.{isSigned, numbers-held}
+use Rattle.tables.specs.Records.{amountFrom, lineWith, linesOf, linesHeld}
+use Rattle.tables.proofs.Words.{line-word}
 use Rattle.lines.specs.declared.judging.Operands.{Operands}
 use Rattle.lines.specs.declared.judging.Operands.the-variants.{NoOperand, Ciphertext, Constant, Pair}
-use Rattle.lines.specs.Judging.{operandsOf, usableBy, kindsFitBy, secondKind, Small, Tidy}
+use Rattle.lines.specs.Judging as Judging
+use Rattle.lines.specs.Judging.{operandsAsked, operandsOf, usableBy, kindsFitBy, secondKind, secondHeld, SecondFits, NumbersRead}
+use Rattle.lines.specs.Lines.{lineTo, judgedAs}
 
--- ---- the word decides
-module _ (w v : Word) (e : w ≡ v) where
-  pub range-by : (g : Grammar) (h : Header) (a b c : ℕ) (t : ℤ) (r : Bool) → r ≡ inRange g h (lineFor v a b c t) → r ≡ inRange g h (lineFor w a b c t)
-  range-by g h a b c t r q = rw e q
+-- ---- a number that has no sign, as the machine holds it
+module _ (z : ℤ) (s : SFits w64 z) (n : T (nonNeg z)) where
+  held : toZ w64 (ofZ w64 z) ≡ z
+  held = toZ-ofZ w64 z s
 
-  pub line-by : (a b c : ℕ) (t : ℤ) (x : Line) → x ≡ lineFor v a b c t → x ≡ lineFor w a b c t
-  line-by a b c t x q = rw e q
+  pub natural-unsigned : T (nonNeg (toZ w64 (ofZ w64 z)))
+  natural-unsigned = rw held n
 
--- a constant's number: from zero means no more than up to its most
-from-zero : (most n : ℕ) → leb n most ≡ within 0 most n
-from-zero most n = rw (le-leb 0 n (omega arith))
+  pub natural-fits : Fits w64 (natAbs (toZ w64 (ofZ w64 z)))
+  natural-fits = rw held (wide z s n)
+    where
+      wide : (z : ℤ) → SFits w64 z → T (nonNeg z) → Fits w64 (natAbs z)
+      wide (pos m) s n = let few = s .sfits in record { fits = omega arith }
+      wide (negsuc m) s n = absurd n
 
-pub constant-range : (w : Word) (g : Grammar) (h : Header) (a b c : ℕ) (t : ℤ) → w ≡ Const → leb a 65535 ≡ inRange g h (lineFor w a b c t)
-constant-range w g h a b c t e = rw e (from-zero 65535 a)
+  magnitude : natAbs (toZ w64 (ofZ w64 z)) ≡ positive z
+  magnitude = ap natAbs held ∙ same z n
+    where
+      same : (z : ℤ) → T (nonNeg z) → natAbs z ≡ positive z
+      same (pos m) n = refl
+      same (negsuc m) n = absurd n
 
--- an encoded constant's scale, then its level
-module _ (w : Word) (g : Grammar) (h : Header) (a b c : ℕ) (t : ℤ) (e : w ≡ Enc) (u : Bool) (q : u ≡ within 1 3600 b) where
-  pub level-range : (r : Bool) → u ≡ true → r ≡ within (levelsFrom g) (levelsTo g h) c → r ≡ inRange g h (lineFor w a b c t)
-  level-range r o p = rw (e, ← q, o) p
+  whole : pos (natAbs (toZ w64 (ofZ w64 z))) ≡ z
+  whole = ap (λ (y : ℤ). pos (natAbs y)) held ∙ same z n
+    where
+      same : (z : ℤ) → T (nonNeg z) → pos (natAbs z) ≡ z
+      same (pos m) n = refl
+      same (negsuc m) n = absurd n
 
-  pub scale-range : u ≡ false → false ≡ inRange g h (lineFor w a b c t)
-  scale-range o = rw (e, ← q, o)
+-- ---- the second operand's kind
+module _ (o : Operands) (z : ℤ) (s : SFits w64 z) (unsigned : o ≡ Pair → T (nonNeg z)) (e : o ≡ Pair) where
+  pub pair-unsigned : T (nonNeg (toZ w64 (ofZ w64 z)))
+  pair-unsigned = natural-unsigned z s (unsigned e)
 
--- a rotation's amount, as the machine holds it
-pub turn-range : (w : Word) (g : Grammar) (h : Header) (a b c : ℕ) (t : ℤ) (r : Bool) → w ≡ Rot → SFits w64 t
-    → r ≡ (leZ (negℤ (pos 32767)) (toZ w64 (ofZ w64 t)) && leZ (toZ w64 (ofZ w64 t)) (pos 32767)) → r ≡ inRange g h (lineFor w a b c t)
-turn-range w g h a b c t r e s q = rw e (rw (toZ-ofZ w64 t s) at q)
+  pub pair-fits : Fits w64 (natAbs (toZ w64 (ofZ w64 z)))
+  pair-fits = natural-fits z s (unsigned e)
 
--- the levels of a file
-pub circuit-level : (g : Grammar) (h : Header) (n : ℕ) (r : Bool) → g ≡ Circuit → r ≡ within 1 (h .top) n → r ≡ within (levelsFrom g) (levelsTo g h) n
-circuit-level g h n r e q = rw e q
+  pub pair-kind : (lines : List Line) (k : Kind) → k ≡ kindAt lines (natAbs (toZ w64 (ofZ w64 z))) → k ≡ secondKind o (kindAt lines (positive z))
+  pair-kind lines k q = rw e (q ∙ ap (kindAt lines) (magnitude z s (unsigned e)))
 
-pub schedule-level : (g : Grammar) (h : Header) (n : ℕ) (r : Bool) → g ≡ Schedule → r ≡ within 1 (h .top) n → r ≡ within (levelsFrom g) (levelsTo g h) n
-schedule-level g h n r e q = rw e q
+pub ruleset second-laws = (needs, pair-unsigned, pair-fits, pair-kind)
 
--- ---- what the operands are decides
-module _ (o v : Operands) (e : o ≡ v) (j k : Kind) (r : Bool) where
-  pub usable-by : r ≡ usableBy v j k → r ≡ usableBy o j k
-  usable-by q = rw e q
+-- ---- the second number in a record
+module _ (w : Word) (z : ℤ) (s : SFits w64 z) (fits : SecondFits w z) (t : Bool) (q : t ≡ sameWord w Rot) where
+  module _ (h : t ≡ true) where
+    short : SFits w16 z
+    short = fits .amount (sym q ∙ h)
 
-  pub fit-by : (g : Grammar) → r ≡ kindsFitBy g v j k → r ≡ kindsFitBy g o j k
-  fit-by g q = rw e q
+    pub amount-fits : SFits w16 (toZ w64 (ofZ w64 z))
+    amount-fits = rw (toZ-ofZ w64 z s) short
 
-module _ (o : Operands) (e : o ≡ Pair) (j k : Kind) (t : Bool) (q : t ≡ isUsable j) where
-  pub second-usable : (r : Bool) → t ≡ true → r ≡ isUsable k → r ≡ usableBy o j k
-  second-usable r h p = rw (e, ← q, h) p
+    pub amount-held : (r : ℕ) → amountFrom r ≡ toZ w16 (ofZ w16 (toZ w64 (ofZ w64 z))) → secondHeld w r ≡ z
+    amount-held r e = rw (← q, h) (e ∙ ap (λ (y : ℤ). toZ w16 (ofZ w16 y)) (toZ-ofZ w64 z s) ∙ toZ-ofZ w16 z short)
 
-  pub first-unusable : t ≡ false → false ≡ usableBy o j k
-  first-unusable h = rw (e, ← q, h)
+  module _ (h : t ≡ false) where
+    natural : Judging.Natural z
+    natural = fits .number (sym q ∙ h)
 
--- ---- what the word says of operands and kinds is what the line says
+    pub number-unsigned : T (nonNeg (toZ w64 (ofZ w64 z)))
+    number-unsigned = natural-unsigned z s (natural .unsigned)
+
+    pub number-fits : Fits w16 (natAbs (toZ w64 (ofZ w64 z)))
+    number-fits = rw (toZ-ofZ w64 z s) (natural .fits)
+
+    pub number-held : secondHeld w (natAbs (toZ w64 (ofZ w64 z))) ≡ z
+    number-held = rw (← q, h) (whole z s (natural .unsigned))
+
+pub ruleset number-laws = (needs, amount-fits, amount-held, number-unsigned, number-fits, number-held)
+
+-- ---- a line's operands are its first numbers, by what its word asks
+abbrev operandsBy : Operands → ℕ → ℕ → List ℕ
+operandsBy NoOperand a b = []
+operandsBy Ciphertext a b = a ∷ []
+operandsBy Constant a b = a ∷ []
+operandsBy Pair a b = a ∷ b ∷ []
+
+module _ (a b c : ℤ) where
+  operands-are : (w : Word) → operands (lineOf w (a ∷ b ∷ c ∷ [])) ≡ operandsBy (operandsOf w) (positive a) (positive b)
+  operands-are In = refl
+  operands-are Const = refl
+  operands-are Neg = refl
+  operands-are Rot = refl
+  operands-are Add = refl
+  operands-are Mul = refl
+  operands-are Out = refl
+  operands-are Enc = refl
+  operands-are Rs = refl
+  operands-are Ms = refl
+  operands-are Us = refl
+  operands-are NoWord = refl
+
 and-true : (b : Bool) → (b && true) ≡ b
 and-true true = refl
 and-true false = refl
 
-module _ (lines : List Line) (a b c : ℕ) (t : ℤ) where
-  one-operand : everyUsable lines (a ∷ []) ≡ isUsable (kindAt lines a)
-  one-operand = and-true (isUsable (kindAt lines a))
+usable-operands : (lines : List Line) (o : Operands) (a b : ℕ) → everyUsable lines (operandsBy o a b) ≡ usableBy o (kindAt lines a) (kindAt lines b)
+usable-operands lines NoOperand a b = refl
+usable-operands lines Ciphertext a b = and-true (isUsable (kindAt lines a))
+usable-operands lines Constant a b = and-true (isUsable (kindAt lines a))
+usable-operands lines Pair a b = ap (λ (u : Bool). isUsable (kindAt lines a) && u) (and-true (isUsable (kindAt lines b)))
 
-  two-operands : everyUsable lines (a ∷ b ∷ []) ≡ (isUsable (kindAt lines a) && isUsable (kindAt lines b))
-  two-operands = ap (λ (u : Bool). isUsable (kindAt lines a) && u) (and-true (isUsable (kindAt lines b)))
+fit-asked : (g : Grammar) (lines : List Line) (s : Asks) (a b : ℕ) →
+    asksFor g s (getD (map (kindAt lines) (operandsBy (operandsAsked s) a b)) 0 Nothing) (getD (map (kindAt lines) (operandsBy (operandsAsked s) a b)) 1 Nothing)
+    ≡ kindsFitBy g (operandsAsked s) (kindAt lines a) (secondKind (operandsAsked s) (kindAt lines b))
+fit-asked g lines noOperand a b = refl
+fit-asked g lines aCiphertext a b = refl
+fit-asked g lines aConstant a b = refl
+fit-asked g lines aPair a b = refl
 
-  pub operands-usable : (w : Word) → everyUsable lines (operands (lineFor w a b c t)) ≡ usableBy (operandsOf w) (kindAt lines a) (kindAt lines b)
-  operands-usable In = refl
-  operands-usable Const = refl
-  operands-usable Neg = one-operand
-  operands-usable Rot = one-operand
-  operands-usable Add = two-operands
-  operands-usable Mul = two-operands
-  operands-usable Out = one-operand
-  operands-usable Enc = one-operand
-  operands-usable Rs = one-operand
-  operands-usable Ms = one-operand
-  operands-usable Us = one-operand
-  operands-usable NoWord = refl
+ap₃ : {A B C D : Type 0} (f : A → B → C → D) {x x′ : A} {y y′ : B} {z z′ : C} → x ≡ x′ → y ≡ y′ → z ≡ z′ → f x y z ≡ f x′ y′ z′
+ap₃ f p q r = λ i. f (p i) (q i) (r i)
 
-  pub operands-fit : (g : Grammar) (w : Word) → kindsFit g lines (lineFor w a b c t) ≡ kindsFitBy g (operandsOf w) (kindAt lines a) (kindAt lines b)
-  operands-fit g In = refl
-  operands-fit g Const = refl
-  operands-fit g Neg = refl
-  operands-fit g Rot = refl
-  operands-fit g Add = refl
-  operands-fit g Mul = refl
-  operands-fit g Out = refl
-  operands-fit g Enc = refl
-  operands-fit g Rs = refl
-  operands-fit g Ms = refl
-  operands-fit g Us = refl
-  operands-fit g NoWord = refl
+-- no line asks for more than three numbers
+first-three : (w : Word) (ns : List ℤ) → lineOf w ns ≡ lineOf w (getD ns 0 (pos 0) ∷ getD ns 1 (pos 0) ∷ getD ns 2 (pos 0) ∷ [])
+first-three In ns = refl
+first-three Const ns = refl
+first-three Neg ns = refl
+first-three Rot ns = refl
+first-three Add ns = refl
+first-three Mul ns = refl
+first-three Out ns = refl
+first-three Enc ns = refl
+first-three Rs ns = refl
+first-three Ms ns = refl
+first-three Us ns = refl
+first-three NoWord ns = refl
 
--- ---- a second kind is asked of two operands alone
-second-unasked : (o : Operands) (j k : Kind) → usableBy o j (secondKind o k) ≡ usableBy o j k
-second-unasked NoOperand j k = refl
-second-unasked Ciphertext j k = refl
-second-unasked Constant j k = refl
-second-unasked Pair j k = refl
+pub line-of-three : (w : Word) (ns : List ℤ) {a b c : ℤ} → a ≡ getD ns 0 (pos 0) → b ≡ getD ns 1 (pos 0) → c ≡ getD ns 2 (pos 0) → lineOf w (a ∷ b ∷ c ∷ []) ≡ lineOf w ns
+line-of-three w ns p q r = ap₃ (λ (x y z : ℤ). lineOf w (x ∷ y ∷ z ∷ [])) p q r ∙ sym (first-three w ns)
 
-second-unfit : (g : Grammar) (o : Operands) (j k : Kind) → kindsFitBy g o j (secondKind o k) ≡ kindsFitBy g o j k
-second-unfit g NoOperand j k = refl
-second-unfit g Ciphertext j k = refl
-second-unfit g Constant j k = refl
-second-unfit g Pair j k = refl
+-- ---- numbers that were read: which have no sign, and which fit a record
+natural-at : {fs : List Holds} {ns : List ℤ} → Fields Held fs ns → (j : ℕ) → T (not (isSigned (getD fs j operand))) → T (nonNeg (getD ns j (pos 0)))
+natural-at no-field j t = tt
+natural-at (field {f = f} {n = n} {fs = fs} {ns = ns} h hs) (suc j) t = natural-at hs j t
+natural-at (field {f = f} {n = n} h hs) zero t = here f n h t
+  where
+    unsigned : {n : ℤ} → Natural n → T (nonNeg n)
+    unsigned (number m) = tt
 
-module _ (o v : Operands) (e : o ≡ v) (k : Kind) where
-  pub second-by : (r : Kind) → r ≡ secondKind v k → r ≡ secondKind o k
-  second-by r q = rw e q
+    here : (f : Holds) (n : ℤ) → Held f n → T (not (isSigned f)) → T (nonNeg n)
+    here operand n h t = unsigned h
+    here (ranged low high) n h t = unsigned h
+    here upToTop n h t = unsigned h
+    here (amount most) n h t = absurd t
+
+abbrev allLow : List Holds → Bool
+allLow [] = true
+allLow (f ∷ fs) = leb (greatest 60 1792 f) 65535 && allLow fs
+
+low-at : {fs : List Holds} {ns : List ℤ} → Fields (Bounded 60 1792) fs ns → T (allLow fs) → (j : ℕ) → natAbs (getD ns j (pos 0)) ≤ 65535
+low-at no-field t j = omega arith
+low-at (field {f = f} {n = n} {fs = fs} b bs) t zero =
+    let most = leb→le (greatest 60 1792 f) 65535 (and-first (leb (greatest 60 1792 f) 65535) (allLow fs) t) in
+    let bound = b .bound in
+    omega arith
+low-at (field {f = f} {fs = fs} b bs) t (suc j) = low-at bs (and-second (leb (greatest 60 1792 f) 65535) (allLow fs) t) j
+
+module _ {w : Word} {a b c : ℤ} (read : NumbersRead w a b c) where
+  fields-held : Fields Held (entry w .fields) (read .numbers)
+  fields-held = numbers-held (entry w .fields) (read .text) (read .read)
+
+  first-natural : T (nonNeg a)
+  first-natural = subst (λ (z : ℤ). T (nonNeg z)) (sym (read .one)) (natural-at fields-held 0 (every-word (λ v. not (isSigned (getD (entry v .fields) 0 operand))) tt w))
+
+  third-natural : T (nonNeg c)
+  third-natural = subst (λ (z : ℤ). T (nonNeg z)) (sym (read .three)) (natural-at fields-held 2 (every-word (λ v. not (isSigned (getD (entry v .fields) 2 operand))) tt w))
+
+  second-natural : sameWord w Rot ≡ false → T (nonNeg b)
+  second-natural e = subst (λ (z : ℤ). T (nonNeg z)) (sym (read .two))
+      (natural-at fields-held 1 (plain (every-word (λ v. sameWord v Rot || not (isSigned (getD (entry v .fields) 1 operand))) tt w)))
+    where
+      plain : T (sameWord w Rot || not (isSigned (getD (entry w .fields) 1 operand))) → T (not (isSigned (getD (entry w .fields) 1 operand)))
+      plain t = subst (λ (u : Bool). T (u || not (isSigned (getD (entry w .fields) 1 operand)))) e t
+
+  read-line : lineOf w (a ∷ b ∷ c ∷ []) ≡ lineOf w (read .numbers)
+  read-line = line-of-three w (read .numbers) (read .one) (read .two) (read .three)
 
 -- ---- ranges and operands show that the numbers fit
-abbrev shaped : Word → ℕ → ℕ → ℕ → ℤ → Shape
-shaped w a b c t = record { word = w; first = a; second = b; third = c; turn = t }
+module _ (h : Header) (top : T (headerInRange h)) (lines : List Line) (few : length lines ≤ 1792) {w : Word} {a b c : ℤ} (read : NumbersRead w a b c)
+    (range : T (inRange h (lineOf w (a ∷ b ∷ c ∷ [])))) (usable : T (everyUsable lines (operands (lineOf w (a ∷ b ∷ c ∷ []))))) where
+  bounded : Fields (Bounded 60 1792) (entry w .fields) (read .numbers)
+  bounded =
+      subst (λ (s : Said Word). Fields (Bounded 60 1792) (entry (s .word) .fields) (s .numbers)) (said-line w (fields-held read))
+      (line-bounded h (header-facts h top) lines (lineOf w (read .numbers)) (subst (λ (x : Line). T (inRange h x)) (read-line read) range)
+      (subst (λ (x : Line). T (everyUsable lines (operands x))) (read-line read) usable) 1792 few)
 
-turn-small : (t : ℤ) → T (leZ (negℤ (pos 32767)) t && leZ t (pos 32767)) → SFits w16 t
-turn-small (pos n) r = record { sfits = omega (arith, leb→le n 32767 r) }
-turn-small (negsuc n) r = record { sfits = omega (arith, leb→le n 32766 (and-first (leb n 32766) true r)) }
+  low : (j : ℕ) → natAbs (getD (read .numbers) j (pos 0)) ≤ 65535
+  low j = low-at bounded (every-word (λ v. allLow (entry v .fields)) tt w) j
 
-no-turn : {t : ℤ} → t ≡ pos 0 → SFits w16 t
-no-turn e = rw e (record { sfits = omega arith })
+  fits-at : (z : ℤ) (j : ℕ) → z ≡ getD (read .numbers) j (pos 0) → Fits w16 (natAbs z)
+  fits-at z j e = let most = low j in record { fits = omega (arith, ap natAbs e) }
 
-up-to : (low most n : ℕ) → T (within low most n) → n ≤ most
-up-to low most n r = within-facts low most n r .most
+  first-number : Judging.Natural a
+  first-number = record { unsigned = first-natural read; fits = fits-at a 0 (read .one) }
 
-module _ (g : Grammar) (h : Header) (top : T (headerInRange h)) (n : ℕ) (few : n ≤ 1792) (a b c : ℕ) (t : ℤ) (j k : Kind) (named : T (isUsable j) → a < n) (named′ : T (isUsable k) → b < n) where
-  small : (w : Word) → Tidy (shaped w a b c t) → T (inRange g h (lineFor w a b c t)) → T (usableBy (operandsOf w) j k) → Small (shaped w a b c t)
-  small In d r u = record { first = record { fits = omega (arith, d .first refl) }; second = record { fits = omega (arith, d .second (lit≤ tt)) }; third = record { fits = omega (arith, d .third (lit≤ tt)) }; turn = no-turn (d .turn tt) }
-  small Const d r u = record { first = record { fits = omega (arith, up-to 0 65535 a r) }; second = record { fits = omega (arith, d .second (lit≤ tt)) }; third = record { fits = omega (arith, d .third (lit≤ tt)) }; turn = no-turn (d .turn tt) }
-  small Neg d r u = record { first = record { fits = omega (arith, named u) }; second = record { fits = omega (arith, d .second (lit≤ tt)) }; third = record { fits = omega (arith, d .third (lit≤ tt)) }; turn = no-turn (d .turn tt) }
-  small Rot d r u = record { first = record { fits = omega (arith, named u) }; second = record { fits = omega (arith, d .amount tt) }; third = record { fits = omega (arith, d .third (lit≤ tt)) }; turn = turn-small t r }
-  small Add d r u = record { first = record { fits = omega (arith, named (and-first (isUsable j) (isUsable k) u)) }; second = record { fits = omega (arith, named′ (and-second (isUsable j) (isUsable k) u)) }; third = record { fits = omega (arith, d .third (lit≤ tt)) }; turn = no-turn (d .turn tt) }
-  small Mul d r u = record { first = record { fits = omega (arith, named (and-first (isUsable j) (isUsable k) u)) }; second = record { fits = omega (arith, named′ (and-second (isUsable j) (isUsable k) u)) }; third = record { fits = omega (arith, d .third (lit≤ tt)) }; turn = no-turn (d .turn tt) }
-  small Out d r u = record { first = record { fits = omega (arith, named u) }; second = record { fits = omega (arith, d .second (lit≤ tt)) }; third = record { fits = omega (arith, d .third (lit≤ tt)) }; turn = no-turn (d .turn tt) }
-  small Enc d r u = record { first = record { fits = omega (arith, named u) }; second = record { fits = omega (arith, up-to 1 3600 b (and-first (within 1 3600 b) (within (levelsFrom g) (levelsTo g h) c) r)) }; third = record { fits = omega (arith, level-most g h, header-facts h top .top .most, up-to (levelsFrom g) (levelsTo g h) c (and-second (within 1 3600 b) (within (levelsFrom g) (levelsTo g h) c) r)) }; turn = no-turn (d .turn tt) }
-  small Rs d r u = record { first = record { fits = omega (arith, named u) }; second = record { fits = omega (arith, up-to 1 60 b r) }; third = record { fits = omega (arith, d .third (lit≤ tt)) }; turn = no-turn (d .turn tt) }
-  small Ms d r u = record { first = record { fits = omega (arith, named u) }; second = record { fits = omega (arith, up-to 1 60 b r) }; third = record { fits = omega (arith, d .third (lit≤ tt)) }; turn = no-turn (d .turn tt) }
-  small Us d r u = record { first = record { fits = omega (arith, named u) }; second = record { fits = omega (arith, up-to 1 3600 b r) }; third = record { fits = omega (arith, d .third (lit≤ tt)) }; turn = no-turn (d .turn tt) }
-  small NoWord d r u = record { first = record { fits = omega (arith, d .first refl) }; second = record { fits = omega (arith, d .second (lit≤ tt)) }; third = record { fits = omega (arith, d .third (lit≤ tt)) }; turn = no-turn (d .turn tt) }
+  third-number : Judging.Natural c
+  third-number = record { unsigned = third-natural read; fits = fits-at c 2 (read .three) }
 
--- an operand that can be used is the number of a line before
-named : (kinds : List ℕ) (a : ℕ) → T (isUsable (kindCoded (getD kinds a 0))) → a < length kinds
-named kinds a u = elim (decLt a (length kinds)) [ yes h ↦ h | no h ↦ absurd (subst (λ (k : Kind). T (isUsable k)) (sym (past kinds a (omega arith))) u) ]
+  second-number : SecondFits w b
+  second-number =
+      record {
+        amount = λ e. rotation (same-word w Rot (subst T (sym e) tt));
+        number = λ e. record { unsigned = second-natural read e; fits = fits-at b 1 (read .two) };
+      }
+    where
+      amount-short : (z : ℤ) → T (leZ (negℤ (pos 32767)) z && leZ z (pos 32767)) → SFits w16 z
+      amount-short (pos n) r = record { sfits = omega (arith, leb→le n 32767 r) }
+      amount-short (negsuc n) r = record { sfits = omega (arith, leb→le n 32766 (and-first (leb n 32766) true r)) }
 
--- ---- the verdict, test by test, for every list of lines with these kinds
-module _ (c : Context) (h : Header) (s : Shape) (kinds : List ℕ) (t : Bool) (q : t ≡ inRange (c .grammar) h (shapeLine s)) where
-  pub out-of-range : t ≡ false → (lines : List Line) → codes lines ≡ kinds → Bad 11 (length kinds + 2) ≡ judged c h lines (shapeLine s)
-  out-of-range o lines e = rw (← q, o, coded-length lines kinds e)
+      rotation : w ≡ Rot → SFits w16 b
+      rotation e = amount-short b (subst (λ (v : Word). T (inRange h (lineOf v (a ∷ b ∷ c ∷ [])))) e range)
 
-  module _ (o : t ≡ true) (j k : Kind) (p : j ≡ kindCoded (getD kinds (s .first) 0)) (w : Operands) (i : w ≡ operandsOf (s .word)) (p′ : k ≡ secondKind w (kindCoded (getD kinds (s .second) 0))) (u : Bool) (q′ : u ≡ usableBy w j k) where
-    abbrev second-there : Kind
-    second-there = kindCoded (getD kinds (s .second) 0)
+-- ---- the verdict, test by test; the machine holds each number as it is
+abbrev machine : ℤ → ℤ
+machine z = toZ w64 (ofZ w64 z)
 
-    usable-by-word : u ≡ usableBy (operandsOf (s .word)) j second-there
-    usable-by-word = q′ ∙ ap (usableBy w j) p′ ∙ second-unasked w j second-there ∙ ap (λ (v : Operands). usableBy v j second-there) i
+-- after such lines, the numbers of a line with this word fit its record
+pub record Fitting (g : Grammar) (h : Header) (lines : List Line) (w : Word) (a b c : ℤ) : Type 0 where
+  pub first-unsigned : T (nonNeg (machine a))
+  pub first-fits : Fits w16 (natAbs (machine a))
+  pub second : SecondFits w (machine b)
+  pub third-unsigned : T (nonNeg (machine c))
+  pub third-fits : Fits w16 (natAbs (machine c))
 
-    usable-at : (lines : List Line) → codes lines ≡ kinds → u ≡ everyUsable lines (operands (shapeLine s))
-    usable-at lines e =
-        usable-by-word ∙ ap₂ (usableBy (operandsOf (s .word))) (p ∙ coded-kind lines kinds (s .first) e) (coded-kind lines kinds (s .second) e)
-        ∙ sym (operands-usable lines (s .first) (s .second) (s .third) (s .turn) (s .word))
+pub held-few : (records : List (List ℕ)) (count : ℕ) → count ≤ 1792 → length (linesHeld records count) ≤ 1792
+held-few records count few = omega (arith, length-take count (linesOf records))
 
-    pub not-usable : u ≡ false → (lines : List Line) → codes lines ≡ kinds → Bad 4 (length kinds + 2) ≡ judged c h lines (shapeLine s)
-    not-usable o′ lines e = rw (← q, o, ← usable-at lines e, o′, coded-length lines kinds e)
+module _ (g : Grammar) (h : Header) (w : Word) (a b c : ℤ) (t : Bool) (q : t ≡ inRange h (lineOf w (machine a ∷ machine b ∷ machine c ∷ [])))
+    (told : NumbersRead w a b c) (has : T (hasWord g w)) (sa : SFits w64 a) (sb : SFits w64 b) (sc : SFits w64 c) where
+  -- the machine's numbers are the line's
+  same-line : lineOf w (machine a ∷ machine b ∷ machine c ∷ []) ≡ lineOf w (a ∷ b ∷ c ∷ [])
+  same-line = ap₃ (λ (x y z : ℤ). lineOf w (x ∷ y ∷ z ∷ [])) (toZ-ofZ w64 a sa) (toZ-ofZ w64 b sb) (toZ-ofZ w64 c sc)
 
-    module _ (o′ : u ≡ true) where
-      pub numbers-small : Tidy s → length kinds ≤ 1792 → T (headerInRange h) → Small s
-      numbers-small d few top =
-          small (c .grammar) h top (length kinds) few (s .first) (s .second) (s .third) (s .turn) j second-there
-          (λ x. named kinds (s .first) (rw p at x)) (λ x. named kinds (s .second) x) (s .word) d (rw (← q, o) tt) (rw (← usable-by-word, o′) tt)
+  word-passes : isWord g (lineOf w (a ∷ b ∷ c ∷ [])) ≡ true
+  word-passes = ap (hasWord g) (line-word w (a ∷ b ∷ c ∷ [])) ∙ true-is (hasWord g w) has
+    where
+      true-is : (u : Bool) → T u → u ≡ true
+      true-is true t = refl
+      true-is false t = absurd t
 
-      module _ (v : Bool) (q″ : v ≡ kindsFitBy (c .grammar) w j k) where
-        fit-at : (lines : List Line) → codes lines ≡ kinds → v ≡ kindsFit (c .grammar) lines (shapeLine s)
-        fit-at lines e =
-            q″ ∙ ap (kindsFitBy (c .grammar) w j) p′ ∙ second-unfit (c .grammar) w j second-there
-            ∙ ap (λ (v : Operands). kindsFitBy (c .grammar) v j second-there) i
-            ∙ ap₂ (kindsFitBy (c .grammar) (operandsOf (s .word))) (p ∙ coded-kind lines kinds (s .first) e) (coded-kind lines kinds (s .second) e)
-            ∙ sym (operands-fit lines (s .first) (s .second) (s .third) (s .turn) (c .grammar) (s .word))
+  in-range : inRange h (lineOf w (a ∷ b ∷ c ∷ [])) ≡ t
+  in-range = sym (q ∙ ap (inRange h) same-line)
 
-        pub not-fit : v ≡ false → (lines : List Line) → codes lines ≡ kinds → Bad 5 (length kinds + 2) ≡ judged c h lines (shapeLine s)
-        not-fit o″ lines e = rw (← q, o, ← usable-at lines e, o′, ← fit-at lines e, o″, coded-length lines kinds e)
+  module _ (lines : List Line) where
+    pub out-of-range : (n end : ℕ) → t ≡ false → refused 11 (n + 2) ≡ lineTo (placeOf n) end (judgedAs g h lines (lineOf w (a ∷ b ∷ c ∷ [])))
+    unfolding judgedAs
+    out-of-range n end o = rw (word-passes, in-range, o)
 
-        pub fits : v ≡ true → (x : Line) → x ≡ shapeLine s → (lines : List Line) → codes lines ≡ kinds → Good x ≡ judged c h lines (shapeLine s)
-        fits o″ x f lines e = rw (← q, o, ← usable-at lines e, o′, ← fit-at lines e, o″, f)
+    module _ (o : t ≡ true) (ops : Operands) (i : ops ≡ operandsOf w) (j : Kind) (p : j ≡ kindAt lines (natAbs (machine a))) (k : Kind)
+        (p′ : k ≡ secondKind ops (kindAt lines (positive (machine b)))) (u : Bool) (q′ : u ≡ usableBy ops j k) where
+      first-kind : kindAt lines (positive a) ≡ j
+      first-kind = sym (p ∙ ap (kindAt lines) (magnitude a sa (first-natural told)))
 
--- the rotation amount of a line, as the machine holds it
-wider : (t : ℤ) → SFits w16 t → SFits w64 t
-wider (pos n) f = record { sfits = omega arith }
-wider (negsuc n) f = record { sfits = omega arith }
+      second-kind : k ≡ secondKind (operandsOf w) (kindAt lines (positive b))
+      second-kind = p′ ∙ ap₂ (λ (v : Operands) (z : ℤ). secondKind v (kindAt lines (positive z))) i (toZ-ofZ w64 b sb)
 
-pub small-line : (s : Shape) (x : Line) → Small s → x ≡ lineFor (s .word) (s .first) (s .second) (s .third) (toZ w16 (ofZ w16 (toZ w64 (ofZ w64 (s .turn))))) → x ≡ shapeLine s
-small-line s x m e = rw (toZ-ofZ w64 (s .turn) (wider (s .turn) (m .turn)), toZ-ofZ w16 (s .turn) (m .turn)) at e
+      every-usable : everyUsable lines (operands (lineOf w (a ∷ b ∷ c ∷ []))) ≡ u
+      every-usable =
+          ap (everyUsable lines) (operands-are a b c w) ∙ usable-operands lines (operandsOf w) (positive a) (positive b)
+          ∙ ap (λ (m : Kind). usableBy (operandsOf w) m (kindAt lines (positive b))) first-kind
+          ∙ unasked (operandsOf w) (kindAt lines (positive b)) ∙ ap₂ (λ (v : Operands) (m : Kind). usableBy v j m) (sym i) (sym second-kind) ∙ sym q′
+        where
+          unasked : (v : Operands) (m : Kind) → usableBy v j m ≡ usableBy v j (secondKind v m)
+          unasked NoOperand m = refl
+          unasked Ciphertext m = refl
+          unasked Constant m = refl
+          unasked Pair m = refl
 
-pub ruleset judge-laws = (needs, small-line, not-true, not-false, range-by, constant-range, turn-range, circuit-level, schedule-level, level-range, scale-range, line-by, usable-by, fit-by, second-by, second-usable, first-unusable)
+      pub not-usable : (n end : ℕ) → u ≡ false → refused 4 (n + 2) ≡ lineTo (placeOf n) end (judgedAs g h lines (lineOf w (a ∷ b ∷ c ∷ [])))
+      unfolding judgedAs
+      not-usable n end o′ = rw (word-passes, in-range, o, every-usable, o′)
 
-pub ruleset verdicts = (needs, not-true, not-false, out-of-range, not-usable, not-fit, fits, numbers-small)
+      module _ (o′ : u ≡ true) (top : T (headerInRange h)) (few : length lines ≤ 1792) where
+        ranged-line : T (inRange h (lineOf w (a ∷ b ∷ c ∷ [])))
+        ranged-line = subst T (sym (in-range ∙ o)) tt
+
+        usable-line : T (everyUsable lines (operands (lineOf w (a ∷ b ∷ c ∷ []))))
+        usable-line = subst T (sym (every-usable ∙ o′)) tt
+
+        pub fitting : Fitting g h lines w a b c
+        fitting =
+            let first = first-number h top lines few told ranged-line usable-line in
+            let third = third-number h top lines few told ranged-line usable-line in
+            record {
+              first-unsigned = natural-unsigned a sa (first .unsigned);
+              first-fits = subst (λ (z : ℤ). Fits w16 (natAbs z)) (sym (toZ-ofZ w64 a sa)) (first .fits);
+              second = subst (SecondFits w) (sym (toZ-ofZ w64 b sb)) (second-number h top lines few told ranged-line usable-line);
+              third-unsigned = natural-unsigned c sc (third .unsigned);
+              third-fits = subst (λ (z : ℤ). Fits w16 (natAbs z)) (sym (toZ-ofZ w64 c sc)) (third .fits);
+            }
+
+      module _ (o′ : u ≡ true) (v : Bool) (q″ : v ≡ kindsFitBy g ops j k) where
+        kinds-fit : kindsFit g lines (lineOf w (a ∷ b ∷ c ∷ [])) ≡ v
+        kinds-fit =
+            ap₂ (λ (s : Asks) (l : List ℕ). asksFor g s (getD (map (kindAt lines) l) 0 Nothing) (getD (map (kindAt lines) l) 1 Nothing))
+            (ap (λ (v : Word). entry v .asks) (line-word w (a ∷ b ∷ c ∷ []))) (operands-are a b c w)
+            ∙ fit-asked g lines (entry w .asks) (positive a) (positive b)
+            ∙ ap₂ (λ (m : Kind) (l : Kind). kindsFitBy g (operandsOf w) m l) first-kind (sym second-kind) ∙ ap (λ (v : Operands). kindsFitBy g v j k) (sym i) ∙ sym q″
+
+        pub not-fit : (n end : ℕ) → v ≡ false → refused 5 (n + 2) ≡ lineTo (placeOf n) end (judgedAs g h lines (lineOf w (a ∷ b ∷ c ∷ [])))
+        unfolding judgedAs
+        not-fit n end o″ = rw (word-passes, in-range, o, every-usable, o′, kinds-fit, o″)
+
+        pub fits : (n end : ℕ) → v ≡ true → (m : ℕ) → secondHeld w m ≡ machine b
+            → Rows.read (lineWith w (natAbs (machine a)) m (natAbs (machine c)), end) ≡ lineTo (placeOf n) end (judgedAs g h lines (lineOf w (a ∷ b ∷ c ∷ [])))
+        unfolding judgedAs
+        fits n end o″ m e =
+            rw (word-passes, in-range, o, every-usable, o′, kinds-fit, o″)
+            (ap (λ (x : Line). Rows.read (x, end))
+            (ap₃ (λ (x y z : ℤ). lineOf w (x ∷ y ∷ z ∷ [])) (whole a sa (first-natural told)) (e ∙ toZ-ofZ w64 b sb) (whole c sc (third-natural told))))
+
+pub second-asked : (w : Word) (a b c : ℤ) → NumbersRead w a b c → SFits w64 b → (ops : Operands) → ops ≡ operandsOf w → ops ≡ Pair → T (nonNeg (machine b))
+second-asked w a b c told s ops i e = natural-unsigned b s (second-natural told (go (sameWord w Rot) refl))
+  where
+    go : (u : Bool) → sameWord w Rot ≡ u → sameWord w Rot ≡ false
+    go false q = q
+    go true q =
+        let rot : w ≡ Rot = same-word w Rot (subst T (sym q) tt) in
+        let other : Ciphertext ≡ Pair = ap operandsOf (sym rot) ∙ sym i ∙ e in
+        absurd (let z : _≡_ {A = ℕ} 0 1 = cc in omega arith)
+
+pub first-asked : (w : Word) (a b c : ℤ) → NumbersRead w a b c → SFits w64 a → T (nonNeg (machine a))
+first-asked w a b c told s = natural-unsigned a s (first-natural told)
+
+pub first-wide : (w : Word) (a b c : ℤ) → NumbersRead w a b c → SFits w64 a → Fits w64 (natAbs (machine a))
+first-wide w a b c told s = natural-fits a s (first-natural told)
+
+pub ruleset verdicts = (
+  needs,
+  not-true,
+  not-false,
+  held-few,
+  first-asked,
+  first-wide,
+  second-asked,
+  out-of-range,
+  not-usable,
+  fitting,
+  not-fit,
+  fits,
+)

@@ -1,8 +1,6 @@
-pub mod KindLaws
-pub mod JudgeLaws
-mod WordLaws
-mod FormLaws
-mod LastField
+pub mod LineLaws
+mod KindLaws
 mod RangeLaws
+mod JudgeLaws
+mod ReadLaws
 mod HeaderLaws
-mod LineLaws

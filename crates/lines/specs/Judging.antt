@@ -1,36 +1,38 @@
--- A line's operands and kinds, by its word and the kinds of what its first two numbers name.
-use Prim.Native.Nat.{_≤_}
-use mathlib.Core.Bool.{Bool, true, not, _&&_}
+-- What the code uses: a line's operands and kinds, by its word and the kinds of what its first two numbers name, and which numbers fit a
+-- record.
+use Prim.Native.Nat.{ℕ}
+use mathlib.Core.Bool.{Bool, true, false, cond, _&&_}
+use mathlib.Core.List.{List}
+use mathlib.Core.Option.{some}
 use mathlib.Core.Path.{_≡_}
 use lib.Dec.{T}
-use lib.IntN.{pos}
+use lib.IntN.{ℤ, pos, natAbs}
+use lib.ListN.{getD}
+use lib.Signed.{nonNeg}
 use mir.Syntax.{w16}
 use mir.Val.{Fits, SFits}
+use Rattle.fields.specs.Pieces.{Bytes}
 use Rattle.model.specs.declared.Grammar.{Grammar}
 use Rattle.model.specs.declared.Kind.{Kind}
 use Rattle.model.specs.declared.Kind.the-variants.{Nothing}
-use Rattle.model.specs.Files.{isCiphertext, isConstant, isUsable, isPair}
 use Rattle.model.specs.declared.Word.{Word}
-use Rattle.model.specs.declared.Word.the-variants.{In, Const, Neg, Rot, Add, Mul, Out, Enc, Rs, Ms, Us, NoWord}
-use Rattle.text.specs.declared.Shape.{Shape}
+use Rattle.model.specs.declared.Word.the-variants.{Rot}
+use Rattle.model.specs.Words.{Asks, noOperand, aCiphertext, aConstant, aPair, entry, sameWord}
+use Rattle.model.specs.Files.{isUsable, asksFor}
+use Rattle.forms.specs.Along.{numbersIn}
+use Rattle.tables.specs.Records.{amountFrom}
 use Rattle.lines.specs.declared.judging.Operands.{Operands}
 use Rattle.lines.specs.declared.judging.Operands.the-variants.{NoOperand, Ciphertext, Constant, Pair}
-use Rattle.text.specs.Words.{arity, takesAmount}
 
--- what a word's operands are
+-- ---- what a word asks of its operands
+abbrev pub operandsAsked : Asks → Operands
+operandsAsked noOperand = NoOperand
+operandsAsked aCiphertext = Ciphertext
+operandsAsked aConstant = Constant
+operandsAsked aPair = Pair
+
 abbrev pub operandsOf : Word → Operands
-operandsOf In = NoOperand
-operandsOf Const = NoOperand
-operandsOf Neg = Ciphertext
-operandsOf Rot = Ciphertext
-operandsOf Add = Pair
-operandsOf Mul = Pair
-operandsOf Out = Ciphertext
-operandsOf Enc = Constant
-operandsOf Rs = Ciphertext
-operandsOf Ms = Ciphertext
-operandsOf Us = Ciphertext
-operandsOf NoWord = NoOperand
+operandsOf w = operandsAsked (entry w .asks)
 
 abbrev pub usableBy : Operands → Kind → Kind → Bool
 usableBy NoOperand j k = true
@@ -39,10 +41,10 @@ usableBy Constant j k = isUsable j
 usableBy Pair j k = isUsable j && isUsable k
 
 abbrev pub kindsFitBy : Grammar → Operands → Kind → Kind → Bool
-kindsFitBy g NoOperand j k = true
-kindsFitBy g Ciphertext j k = isCiphertext j
-kindsFitBy g Constant j k = isConstant j
-kindsFitBy g Pair j k = isPair g j k
+kindsFitBy g NoOperand j k = asksFor g noOperand j k
+kindsFitBy g Ciphertext j k = asksFor g aCiphertext j k
+kindsFitBy g Constant j k = asksFor g aConstant j k
+kindsFitBy g Pair j k = asksFor g aPair j k
 
 -- the second operand's kind, which is asked of two operands alone
 abbrev pub secondKind : Operands → Kind → Kind
@@ -51,17 +53,24 @@ secondKind Ciphertext k = Nothing
 secondKind Constant k = Nothing
 secondKind Pair k = k
 
--- the numbers fit a line's fields
-pub record Small (s : Shape) : Type 0 where
-  pub first : Fits w16 (s .first)
-  pub second : Fits w16 (s .second)
-  pub third : Fits w16 (s .third)
-  pub turn : SFits w16 (s .turn)
+-- ---- a line's numbers
+-- they were read of the fields after the word; past them there is 0
+pub record NumbersRead (w : Word) (first second third : ℤ) : Type 0 where
+  pub text : Bytes
+  pub numbers : List ℤ
+  pub read : numbersIn (entry w .fields) text ≡ some numbers
+  pub one : first ≡ getD numbers 0 (pos 0)
+  pub two : second ≡ getD numbers 1 (pos 0)
+  pub three : third ≡ getD numbers 2 (pos 0)
 
--- a number for which the word has no field is 0
-pub record Tidy (s : Shape) : Type 0 where
-  pub first : arity (s .word) ≡ 0 → s .first ≡ 0
-  pub second : arity (s .word) ≤ 1 → s .second ≡ 0
-  pub third : arity (s .word) ≤ 2 → s .third ≡ 0
-  pub amount : T (takesAmount (s .word)) → s .second ≡ 0
-  pub turn : T (not (takesAmount (s .word))) → s .turn ≡ pos 0
+-- the second number of a record, with a sign where it is a rotation's amount
+abbrev pub secondHeld : Word → ℕ → ℤ
+secondHeld w b = cond (sameWord w Rot) (amountFrom b) (pos b)
+
+pub record Natural (z : ℤ) : Type 0 where
+  pub unsigned : T (nonNeg z)
+  pub fits : Fits w16 (natAbs z)
+
+pub record SecondFits (w : Word) (z : ℤ) : Type 0 where
+  pub amount : sameWord w Rot ≡ true → SFits w16 z
+  pub number : sameWord w Rot ≡ false → Natural z

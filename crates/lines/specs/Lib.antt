@@ -1,5 +1,3 @@
--- What the reader of a line computes besides the text's own definitions.
-pub mod Words
-pub mod Kinds
+-- What the code that reads a line computes besides the text's own definitions.
 pub mod Judging
-pub mod Forms
+pub mod Lines

@@ -1,78 +1,67 @@
 // Ranges, operands and kinds of a line that is of the form, in this order.
+use crate::LineRead;
 use crate::kinds;
 use model::Grammar;
 use model::Header;
 use model::Kind;
-use model::Line;
 use model::Word;
-use text::Context;
-use text::LineRead;
-use text::Shape;
 ghost use mathlib.Core.Path.{_≡_};
-ghost use mathlib.Core.List.{List};
+ghost use mathlib.Core.List.{[], _∷_};
+ghost use mathlib.Core.Bool.{_&&_};
 ghost use Prim.Native.Nat.{_≤_};
-ghost use lib.ListN.{length, getD};
 ghost use lib.Dec.{T};
 ghost use lib.IntN.{pos, negℤ};
-ghost use lib.Signed.{leZ};
-ghost use mathlib.Core.Bool.{_&&_};
-ghost use Rattle.model.specs.Scales.{within, headerInRange};
-ghost use Rattle.model.specs.Words.{levelsFrom, levelsTo};
-ghost use Rattle.model.specs.Files.{inRange};
-ghost use Rattle.text.specs.Lines.{lineFor, shapeLine, judged};
-ghost use Rattle.lines.specs.Kinds.{kindCoded, codes};
-ghost use Rattle.lines.specs.Judging.{operandsOf, usableBy, kindsFitBy, secondKind, Tidy, Small};
+ghost use lib.Signed.{leZ, nonNeg};
+ghost use lib.ListN.{length};
+ghost use Rattle.ints.specs.Parts.{positive};
+ghost use Rattle.rows.specs.Fields.{within};
+ghost use Rattle.rows.specs.Rows.{placeOf};
+ghost use Rattle.model.specs.Scales.{headerInRange};
+ghost use Rattle.model.specs.Words.{hasWord};
+ghost use Rattle.model.specs.Files.{lineOf, inRange, kindAt};
+ghost use Rattle.tables.specs.Records.{linesHeld};
+ghost use Rattle.lines.specs.Judging.{operandsOf, usableBy, kindsFitBy, secondKind, secondHeld, SecondFits, NumbersRead};
+ghost use Rattle.lines.specs.Lines.{lineRead, lineTo, judgedAs};
 
 // From 1 to most.
-pub fn up_to(most: u64, n: u64) -> bool
-    ensures { λ r. ⌜ r ≡ within 1 most n ⌝ }
+pub fn up_to(most: u32, n: i64) -> bool
+    ensures { λ r. ⌜ r ≡ within 1 most (positive n) ⌝ }
 {
     if n < 1 {
         return false;
     }
-    n <= most
+    n <= most as i64
 }
 
-fn turn_in_range(turn: i64) -> bool
-    ensures { λ r. ⌜ r ≡ (leZ (negℤ (pos 32767)) turn && leZ turn (pos 32767)) ⌝ }
+fn amount_in_range(amount: i64) -> bool
+    ensures { λ r. ⌜ r ≡ (leZ (negℤ (pos 32767)) amount && leZ amount (pos 32767)) ⌝ }
 {
-    if turn < -32767 {
+    if amount < -32767 {
         return false;
     }
-    turn <= 32767
+    amount <= 32767
 }
 
-// The levels that a file's lines may name.
-fn level_in_range(grammar: Grammar, header: Header, level: u64) -> bool
-    ensures { λ r. ⌜ r ≡ within (levelsFrom grammar) (levelsTo grammar header) level ⌝ }
+fn in_range(header: Header, word: Word, first: i64, second: i64, third: i64) -> bool
+    ensures { λ r. ⌜ r ≡ inRange header (lineOf word (first ∷ second ∷ third ∷ [])) ⌝ }
 {
-    match grammar {
-        Grammar::Circuit => up_to(header.top as u64, level),
-        Grammar::Schedule => up_to(header.top as u64, level),
-    }
-}
-
-fn in_range(grammar: Grammar, header: Header, shape: Shape) -> bool
-    ensures { λ r. ⌜ r ≡ inRange grammar header (shapeLine shape) ⌝ }
-{
-    let word = shape.word;
     match word {
         Word::In => true,
-        Word::Const => shape.first <= 65535,
+        Word::Const => first <= 65535,
         Word::Neg => true,
-        Word::Rot => turn_in_range(shape.turn),
+        Word::Rot => amount_in_range(second),
         Word::Add => true,
         Word::Mul => true,
         Word::Out => true,
         Word::Enc => {
-            if !up_to(3600, shape.second) {
+            if !up_to(3600, second) {
                 return false;
             }
-            level_in_range(grammar, header, shape.third)
+            up_to(header.top, third)
         }
-        Word::Rs => up_to(60, shape.second),
-        Word::Ms => up_to(60, shape.second),
-        Word::Us => up_to(3600, shape.second),
+        Word::Rs => up_to(60, second),
+        Word::Ms => up_to(60, second),
+        Word::Us => up_to(3600, second),
         Word::NoWord => true,
     }
 }
@@ -134,75 +123,67 @@ fn kinds_fit(grammar: Grammar, operands: Operands, first: Kind, second: Kind) ->
 }
 
 // The kind of the second operand, where the word has two.
-fn second_kind(operands: Operands, before: &[u8], b: u64) -> Kind
-    ensures { λ r. ⌜ r ≡ secondKind operands (kindCoded (getD (now (before .entry)) b 0)) ⌝ }
+fn second_kind(operands: Operands, records: &[[u16; 4]], count: usize, b: i64) -> Kind
+    requires { ⌜ count ≤ length (now records) ⌝ }
+    requires unsigned { ⌜ (operands ≡ Operands.Pair → T (nonNeg b)) ⌝ }
+    ensures { λ r. ⌜ r ≡ secondKind operands (kindAt (linesHeld (now (records .entry)) count) (positive b)) ⌝ }
 {
     match operands {
         Operands::NoOperand => Kind::Nothing,
         Operands::Ciphertext => Kind::Nothing,
         Operands::Constant => Kind::Nothing,
-        Operands::Pair => kinds::kind_at(before, b),
+        Operands::Pair => tables::kind_at(records, count, b as u64),
     }
 }
 
-fn line_for(word: Word, a: u16, b: u16, c: u16, turn: i16) -> Line
-    ensures { λ r. ⌜ r ≡ lineFor word a b c turn ⌝ }
+// A line's second number as its record holds it.
+fn second_number(word: Word, second: i64) -> u16
+    requires { ⌜ SecondFits word second ⌝ }
+    ensures { λ r. ⌜ secondHeld word r ≡ second ⌝ }
 {
-    match word {
-        Word::In => Line::In,
-        Word::Const => Line::Const(a),
-        Word::Neg => Line::Neg(a),
-        Word::Rot => Line::Rot(a, turn),
-        Word::Add => Line::Add(a, b),
-        Word::Mul => Line::Mul(a, b),
-        Word::Out => Line::Out(a),
-        Word::Enc => Line::Enc {
-            of: a,
-            scale: b,
-            level: c as u32,
-        },
-        Word::Rs => Line::Rs(a, b),
-        Word::Ms => Line::Ms(a, b),
-        Word::Us => Line::Us(a, b),
-        Word::NoWord => Line::Free,
+    if words::takes_amount(word) {
+        return tables::shifted(second as i16);
     }
+    second as u16
 }
 
-fn line_of(shape: Shape) -> Line
-    requires { ⌜ Small shape ⌝ }
-    ensures { λ r. ⌜ r ≡ shapeLine shape ⌝ }
-{
-    let word = shape.word;
-    line_for(
-        word,
-        shape.first as u16,
-        shape.second as u16,
-        shape.third as u16,
-        shape.turn as i16,
-    )
-}
-
-// A form after lines of these kinds. Its numbers are made smaller only when ranges and operands show that they fit.
-pub fn judge(context: Context, header: Header, before: &[u8], shape: Shape) -> LineRead
+// A line after those of the first `count` records. Its numbers are made smaller only when ranges and operands show that they fit.
+pub fn judge(
+    grammar: Grammar,
+    header: Header,
+    records: &[[u16; 4]],
+    count: usize,
+    word: Word,
+    first: i64,
+    second: i64,
+    third: i64,
+    end: usize,
+) -> LineRead
     requires { ⌜ T (headerInRange header) ⌝ }
-    requires { ⌜ length (now before) ≤ 1792 ⌝ }
-    requires tidy { ⌜ Tidy shape ⌝ }
-    ensures { λ r. ⌜ ((lines : List Line) → codes lines ≡ now (before .entry) → r ≡ judged context header lines (shapeLine shape)) ⌝ }
+    requires { ⌜ count ≤ length (now records) ⌝ }
+    requires { ⌜ count ≤ 1792 ⌝ }
+    requires { ⌜ T (hasWord grammar word) ⌝ }
+    requires { ⌜ NumbersRead word first second third ⌝ }
+    ensures { λ r. ⌜ lineRead word r ≡ lineTo (placeOf count) end (judgedAs grammar header (linesHeld (now (records .entry)) count) (lineOf word (first ∷ second ∷ third ∷ []))) ⌝ }
 {
-    let place = (before.len() as u32) + 2;
-    let grammar = context.grammar;
-    if !in_range(grammar, header, shape) {
+    let place = (count as u32) + 2;
+    if !in_range(header, word, first, second, third) {
         return LineRead::Bad { number: 11, place };
     }
-    let word = shape.word;
     let operands = operands_of(word);
-    let first = kinds::kind_at(before, shape.first);
-    let second = second_kind(operands, before, shape.second);
-    if !usable(operands, first, second) {
+    let one = tables::kind_at(records, count, first as u64);
+    let two = second_kind(operands, records, count, second);
+    if !usable(operands, one, two) {
         return LineRead::Bad { number: 4, place };
     }
-    if !kinds_fit(grammar, operands, first, second) {
+    if !kinds_fit(grammar, operands, one, two) {
         return LineRead::Bad { number: 5, place };
     }
-    LineRead::Good(line_of(shape))
+    let b = second_number(word, second);
+    LineRead::Good {
+        a: first as u16,
+        b,
+        c: third as u16,
+        end,
+    }
 }

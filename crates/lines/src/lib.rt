@@ -1,67 +1,71 @@
-// Reading one line of a file: its bytes, without the line feed, to a line or to a refusal's number and place.
-// The lines before it are known by their kinds alone, one byte each: no more of them is ever asked.
-pub mod forms;
+// Reading one line of a file where it stands in the text: to the numbers of its record, or to a refusal's number and place. Of the lines before
+// it no more is asked than the kinds of those that it names.
 pub mod headers;
 pub mod judging;
 pub mod kinds;
-pub mod words;
 
+use forms::NumbersAt;
+use model::Grammar;
 use model::Header;
 use model::Word;
-use text::Context;
-use text::Form;
-use text::LineRead;
 ghost use mathlib.Core.Path.{_≡_};
-ghost use mathlib.Core.List.{List};
-ghost use Prim.Native.Nat.{_≤_};
+ghost use Prim.Native.Nat.{_+_, _≤_};
 ghost use lib.Dec.{T};
-ghost use lib.ListN.{length, take};
-ghost use Rattle.fields.specs.Pieces.{tab, before};
-ghost use Rattle.model.specs.declared.Line.{Line};
+ghost use lib.ListN.{length, drop};
+ghost use Rattle.rows.specs.Rows.{placeOf};
 ghost use Rattle.model.specs.Scales.{headerInRange};
-ghost use Rattle.text.specs.Words.{isKeptWord, wordNamed};
-ghost use Rattle.text.specs.Lines.{readLine};
-ghost use Rattle.text.specs.Files.{beginsKept};
-ghost use Rattle.lines.specs.Kinds.{codes};
+ghost use Rattle.forms.specs.Along.{lineIn};
+ghost use Rattle.tables.specs.Records.{linesHeld};
+ghost use Rattle.lines.specs.Lines.{lineRead, wordJudged, lineTo};
 
-// A line's first field: which word it is, and how many bytes it has.
-pub struct FirstField {
-    pub word: Word,
-    pub end: usize,
+// A line that was read: what its record holds after the word's number, and the place past its line feed; or a refusal.
+pub enum LineRead {
+    Good { a: u16, b: u16, c: u16, end: usize },
+    Bad { number: u32, place: u32 },
 }
 
-pub fn front(bytes: &[u8]) -> FirstField
-    ensures { λ r. ⌜ r .end ≡ before tab (now (bytes .entry)) ⌝ }
-    ensures within { λ r. ⌜ r .end ≤ length (now (bytes .entry)) ⌝ }
-    ensures { λ r. ⌜ r .word ≡ wordNamed (take (r .end) (now (bytes .entry))) ⌝ }
-    ensures kept { λ r. ⌜ isKeptWord (r .word) ≡ beginsKept (now (bytes .entry)) ⌝ }
-{
-    let end = fields::find(bytes, 9);
-    let word = words::word_of(&bytes[..end]);
-    FirstField { word, end }
-}
-
-// One line, after lines of these kinds, where its first field is known.
+// One line, after those of the first `count` records, where its word is known and the place past it.
 pub fn read_line(
-    context: Context,
+    grammar: Grammar,
     header: Header,
-    kinds: &[u8],
-    bytes: &[u8],
+    records: &[[u16; 4]],
+    count: usize,
+    text: &[u8],
     word: Word,
-    end: usize,
+    start: usize,
 ) -> LineRead
     requires { ⌜ T (headerInRange header) ⌝ }
-    requires { ⌜ length (now kinds) ≤ 1792 ⌝ }
-    requires { ⌜ end ≡ before tab (now bytes) ⌝ }
-    requires { ⌜ end ≤ length (now bytes) ⌝ }
-    requires { ⌜ word ≡ wordNamed (take end (now bytes)) ⌝ }
-    ensures { λ r. ⌜ ((before : List Line) → codes before ≡ now (kinds .entry) → r ≡ readLine context header before (now (bytes .entry))) ⌝ }
+    requires { ⌜ count ≤ length (now records) ⌝ }
+    requires { ⌜ count ≤ 1792 ⌝ }
+    ensures { λ r. ⌜ lineRead word r ≡ lineTo (placeOf count) (start + length (lineIn (drop start (now (text .entry)))) + 1) (wordJudged grammar header (linesHeld (now (records .entry)) count) word (drop start (now (text .entry)))) ⌝ }
 {
-    let place = (kinds.len() as u32) + 2;
-    let grammar = context.grammar;
-    let read = forms::form(grammar, place, bytes, word, end);
-    match read {
-        Form::Shaped(shape) => judging::judge(context, header, kinds, shape),
-        Form::Unformed { number, place } => LineRead::Bad { number, place },
+    let place = (count as u32) + 2;
+    if !words::is_word_of(grammar, word) {
+        return LineRead::Bad { number: 1, place };
+    }
+    match forms::numbers_at(
+        place,
+        text,
+        start,
+        words::fields_of(word),
+        words::signed_of(word),
+    ) {
+        NumbersAt::NotOfForm { number, place } => LineRead::Bad { number, place },
+        NumbersAt::Numbers {
+            first,
+            second,
+            third,
+            end,
+        } => judging::judge(
+            grammar,
+            header,
+            records,
+            count,
+            word,
+            first,
+            second,
+            third,
+            end + 1,
+        ),
     }
 }

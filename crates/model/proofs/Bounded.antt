@@ -10,7 +10,7 @@ use lib.Signed.{leZ}
 use Rattle.ints.specs.Parts.{positive, negative}
 use Rattle.ints.proofs.Linear.{le-parts, positive-neg, whole-part}
 use Rattle.model.specs.declared.Header.{Header}
-use Rattle.model.specs.Scales.{floor}
+use Rattle.model.specs.Scales.{headroom}
 use Rattle.model.specs.Rules.{Bounds}
 use Rattle.model.specs.Machine.{Step, goes, stops}
 use Rattle.model.specs.declared.Found.{Found}
@@ -21,25 +21,34 @@ use Rattle.model.proofs.Tests.{cond-cases, cond-true}
 module _ (h : Header) where
   pub bounded-goes : (found : ℕ → ℕ → Found) (s l : ℕ) → Bounds h s l → bounded h found (pos s) (pos l) ≡ goes (found s l)
   bounded-goes found s l b =
-      cond-true (leb (h .waterline) s) (cond (leb (s + floor h) (h .factor * l)) (goes (found s l)) (stops 9)) (stops 10) (le→leb (h .waterline) s (b .low))
-      ∙ cond-true (leb (s + floor h) (h .factor * l)) (goes (found s l)) (stops 9) (le→leb (s + floor h) (h .factor * l) (b .high))
+      cond-true (leb (h .waterline) s) (cond (leb (s + headroom h) (h .factor * l)) (goes (found s l)) (stops 9)) (stops 10) (le→leb (h .waterline) s (omega arith))
+      ∙ cond-true (leb (s + headroom h) (h .factor * l)) (goes (found s l)) (stops 9) (le→leb (s + headroom h) (h .factor * l) (b .high))
 
   -- the two tests
   abbrev pub Low : ℤ → Type 0
   Low s = T (leZ (pos (h .waterline)) s)
 
   abbrev pub High : ℤ → ℤ → Type 0
-  High s l = T (leZ (s +ℤ pos (floor h)) (pos (h .factor) *ℤ l))
+  High s l = T (leZ (s +ℤ pos (headroom h)) (pos (h .factor) *ℤ l))
 
   module _ (P : Step Found ℕ → Type 0) where
-    pub bounded-cases : (found : ℕ → ℕ → Found) (s l : ℤ) → (Low s → High s l → P (goes (found (positive s) (positive l)))) → P (stops 9) → P (stops 10) → P (bounded h found s l)
-    bounded-cases found s l k nine ten =
-        cond-cases P (leZ (pos (h .waterline)) s) _ _
-        (λ t. cond-cases P (leZ (s +ℤ pos (floor h)) (pos (h .factor) *ℤ l)) _ _ (k t) (λ u. nine)) (λ t. ten)
+    -- with the tests that failed
+    pub bounded-tests : (found : ℕ → ℕ → Found) (s l : ℤ) → (Low s → High s l → P (goes (found (positive s) (positive l))))
+        → (Low s → T (not (leZ (s +ℤ pos (headroom h)) (pos (h .factor) *ℤ l))) → P (stops 9)) → (T (not (leZ (pos (h .waterline)) s)) → P (stops 10)) → P (bounded h found s l)
+    bounded-tests found s l k nine ten =
+        cond-cases P (leZ (pos (h .waterline)) s) _ _ (λ t. cond-cases P (leZ (s +ℤ pos (headroom h)) (pos (h .factor) *ℤ l)) _ _ (k t) (nine t)) ten
 
-    pub sum-cases : (s l s′ l′ : ℕ) → (l ≡ l′ → s ≡ s′ → P (bounded h Founds.Ciphertext (pos s) (pos l))) → (T (not (eqb s s′)) → P (stops 8)) → (T (not (eqb l l′)) → P (stops 7)) → P (sum h s l s′ l′)
-    sum-cases s l s′ l′ k eight seven =
-        cond-cases P (eqb l l′) _ _ (λ t. cond-cases P (eqb s s′) _ _ (λ u. k (eqb→eq l l′ t) (eqb→eq s s′ u)) eight) seven
+    pub bounded-cases : (found : ℕ → ℕ → Found) (s l : ℤ) → (Low s → High s l → P (goes (found (positive s) (positive l)))) → P (stops 9) → P (stops 10) → P (bounded h found s l)
+    bounded-cases found s l k nine ten = bounded-tests found s l k (λ t u. nine) (λ t. ten)
+
+    pub sum-tests : (s l s′ l′ : ℕ) → (l ≡ l′ → s ≡ s′ → P (bounded h Founds.Ciphertext (pos s) (pos l))) → (l ≡ l′ → T (not (eqb s s′)) → P (stops 8))
+        → (T (not (eqb l l′)) → P (stops 7)) → P (sum h s l s′ l′)
+    sum-tests s l s′ l′ k eight seven =
+        cond-cases P (eqb l l′) _ _ (λ t. cond-cases P (eqb s s′) _ _ (λ u. k (eqb→eq l l′ t) (eqb→eq s s′ u)) (eight (eqb→eq l l′ t))) seven
+
+    pub sum-cases : (s l s′ l′ : ℕ) → (l ≡ l′ → s ≡ s′ → P (bounded h Founds.Ciphertext (pos s) (pos l))) → (T (not (eqb s s′)) → P (stops 8)) → (T (not (eqb l l′)) → P (stops 7))
+        → P (sum h s l s′ l′)
+    sum-cases s l s′ l′ k eight seven = sum-tests s l s′ l′ k (λ e. eight) seven
 
     pub product-cases : (s l s′ l′ : ℕ) → (l ≡ l′ → P (bounded h Founds.Ciphertext (pos (s + s′)) (pos l))) → (T (not (eqb l l′)) → P (stops 7)) → P (product h s l s′ l′)
     product-cases s l s′ l′ k seven = cond-cases P (eqb l l′) _ _ (λ t. k (eqb→eq l l′ t)) seven
@@ -53,7 +62,7 @@ module _ (h : Header) where
   tests-bound (pos s) l low high =
       record {
         low = omega (arith, le-parts (pos (h .waterline)) (pos s) low);
-        high = omega (arith, le-parts (pos (s + floor h)) (pos (h .factor) *ℤ l) high, positive-times l);
+        high = omega (arith, le-parts (pos (s + headroom h)) (pos (h .factor) *ℤ l) high, positive-times l);
       }
 
   -- what passes both is not below zero
@@ -68,7 +77,7 @@ module _ (h : Header) where
     tested (pos s) (negsuc l) t u = absurd never
       where
         never : ⊥
-        never = omega (arith, leb→le (h .waterline) s t, le-parts (pos (s + floor h)) (pos (h .factor) *ℤ negsuc l) u, positive-neg (pos (h .factor * suc l)))
+        never = omega (arith, leb→le (h .waterline) s t, le-parts (pos (s + headroom h)) (pos (h .factor) *ℤ negsuc l) u, positive-neg (pos (h .factor * suc l)))
     tested (negsuc s) l t u = absurd t
 
     pub bounded-elim : (P : Step Found ℕ → Type 0) (found : ℕ → ℕ → Found) (S L : ℤ) → ((n : ℕ) → P (stops n))

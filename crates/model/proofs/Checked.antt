@@ -21,9 +21,10 @@ use Rattle.model.specs.declared.Kind.{Kind}
 use Rattle.model.specs.declared.Kind.the-variants.{Ciphertext, Constant, Encoded}
 use Rattle.model.specs.declared.Answer.{Answer}
 use Rattle.model.specs.declared.Answer.the-variants.{Done, Refused}
-use Rattle.model.specs.Scales.{headerInRange, floor}
-use Rattle.model.specs.Files.{placeOf, isWord, inRange, isCiphertext, isConstant, isEncoded, isPair, wellFormed}
-use Rattle.model.specs.Machine.{Step, Run, finished, stopped, andThen, operand, step, run}
+use Rattle.model.specs.Scales.{headerInRange, headroom}
+use Rattle.rows.specs.Rows.{placeOf}
+use Rattle.model.specs.Files.{isWord, inRange, isCiphertext, isConstant, isEncoded, isPair, wellFormed}
+use Rattle.model.specs.Machine.{Step, Run, finished, stopped, andThen, heldBy, step, run}
 use Rattle.model.specs.Rules.{Rule, Bounds, hasScale, KeepsRules}
 use Rattle.model.specs.declared.Found.{Found}
 use Rattle.model.specs.declared.Found.the-variants as Founds
@@ -32,7 +33,7 @@ use Rattle.model.proofs.Lists.{found-below, found-is}
 use Rattle.model.proofs.Bounded.{bounded-goes, bounded-cases, sum-cases, product-cases, Tested, tested}
 use Rattle.model.proofs.Tests.{and-first, and-second, or-cases, or-first, or-second, eq-passes, header-facts}
 use Rattle.model.proofs.Outcomes.{Outcome, AnyReason, NoReason, outcome-goes, outcome-operand, finishes, stepped}
-use Rattle.model.proofs.Formed.{well-header, well-lines, line-place, Matched, Result, OnOne, OnTwo, Duty, formed-run}
+use Rattle.model.proofs.Formed.{well-header, well-lines, line-place, Matched, Result, OnOperand, OnOperands, OnOne, OnTwo, Duty, formed-run}
 
 -- ---- what the check finds: its kind, and its numbers where it has them
 abbrev pub foundKind : Found → Kind
@@ -69,7 +70,8 @@ module _ (A : ℕ → Type 0) (P : Found → Type 0) where
   on-bare r (Founds.Encoded s l) n p = n tt
   on-bare r (Founds.Ciphertext s l) n p = n tt
 
-  pub on-ciphertext : (f : ℕ → ℕ → Step Found ℕ) (v : Found) → (T (not (isCiphertext (foundKind v))) → A 5) → Outcome A P (f (scaleOf v) (levelOf v)) → Outcome A P (onCiphertext f v)
+  pub on-ciphertext : (f : ℕ → ℕ → Step Found ℕ) (v : Found) → (T (not (isCiphertext (foundKind v))) → A 5) → Outcome A P (f (scaleOf v) (levelOf v))
+      → Outcome A P (onCiphertext f v)
   on-ciphertext f Founds.Bare n p = n tt
   on-ciphertext f (Founds.Encoded s l) n p = n tt
   on-ciphertext f (Founds.Ciphertext s l) n p = p
@@ -83,7 +85,7 @@ module _ (A : ℕ → Type 0) (P : Found → Type 0) where
   on-pair f (Founds.Ciphertext s l) (Founds.Ciphertext s′ l′) n p = p
 
   pub on-bounded : (h : Header) (make : ℕ → ℕ → Found) (s l : ℤ)
-      → (T (leZ (pos (h .waterline)) s) → T (leZ (s +ℤ pos (floor h)) (pos (h .factor) *ℤ l)) → P (make (positive s) (positive l))) → A 9 → A 10
+      → (T (leZ (pos (h .waterline)) s) → T (leZ (s +ℤ pos (headroom h)) (pos (h .factor) *ℤ l)) → P (make (positive s) (positive l))) → A 9 → A 10
       → Outcome A P (bounded h make s l)
   on-bounded h make s l k nine ten = bounded-cases h (Outcome A P) make s l k nine ten
 
@@ -91,7 +93,8 @@ module _ (A : ℕ → Type 0) (P : Found → Type 0) where
       → (l ≡ l′ → s ≡ s′ → Outcome A P (bounded h Founds.Ciphertext (pos s) (pos l))) → Outcome A P (sum h s l s′ l′)
   on-sum h s l s′ l′ seven eight k = sum-cases h (Outcome A P) s l s′ l′ k eight seven
 
-  pub on-product : (h : Header) (s l s′ l′ : ℕ) → (T (not (eqb l l′)) → A 7) → (l ≡ l′ → Outcome A P (bounded h Founds.Ciphertext (pos (s + s′)) (pos l))) → Outcome A P (product h s l s′ l′)
+  pub on-product : (h : Header) (s l s′ l′ : ℕ) → (T (not (eqb l l′)) → A 7) → (l ≡ l′ → Outcome A P (bounded h Founds.Ciphertext (pos (s + s′)) (pos l)))
+      → Outcome A P (product h s l s′ l′)
   on-product h s l s′ l′ seven k = product-cases h (Outcome A P) s l s′ l′ k seven
 
 -- equal numbers do not differ
@@ -120,15 +123,16 @@ module _ (h : Header) (in-range : T (headerInRange h)) (found : List Found) (i :
 
   module _ (ins : ℕ) (held : List Found) (among : (a : ℕ) (v : Found) → getElem? held a ≡ some v → getElem? found a ≡ some v) where
     one : (x : Line) (a : ℕ) (f : Found → Step Found ℕ) → ((v : Found) → scaleIn found a ≡ scaleOf v → levelIn found a ≡ levelOf v → Outcome AnyReason (Ruled h found i x) (f v))
-        → Outcome AnyReason (Ruled h found i x) (andThen (operand (checkMachine h) held a) f)
+        → Outcome AnyReason (Ruled h found i x) (andThen (heldBy (checkMachine h) held a) f)
     one x a f k = outcome-operand AnyReason (Ruled h found i x) (checkMachine h) held a f tt
         (λ v e. let g = found-is found a Founds.Bare (among a v e) in k v (ap scaleOf g) (ap levelOf g))
 
     -- a word on one ciphertext
     unary : (x : Line) (a : ℕ) (scale level : ℕ → ℕ → ℤ)
-        → ((s l : ℕ) → scaleIn found a ≡ s → levelIn found a ≡ l → Tested h (scale s l) (level s l) → scaleIn found i ≡ positive (scale s l) → levelIn found i ≡ positive (level s l)
+        → ((s l : ℕ) → scaleIn found a ≡ s → levelIn found a ≡ l → Tested h (scale s l) (level s l) → scaleIn found i ≡ positive (scale s l)
+        → levelIn found i ≡ positive (level s l)
         → Rule h (scaleIn found) (levelIn found) i x)
-        → Outcome AnyReason (Ruled h found i x) (andThen (operand (checkMachine h) held a) (onCiphertext (λ s l. bounded h Founds.Ciphertext (scale s l) (level s l))))
+        → Outcome AnyReason (Ruled h found i x) (andThen (heldBy (checkMachine h) held a) (onCiphertext (λ s l. bounded h Founds.Ciphertext (scale s l) (level s l))))
     unary x a scale level k = one x a (onCiphertext (λ s l. bounded h Founds.Ciphertext (scale s l) (level s l)))
         (λ v p q. on-ciphertext AnyReason (Ruled h found i x) (λ s l. bounded h Founds.Ciphertext (scale s l) (level s l)) v (λ t. tt)
         (bounded-ruled x (scale (scaleOf v) (levelOf v)) (level (scaleOf v) (levelOf v)) (k (scaleOf v) (levelOf v) p q)))
@@ -136,8 +140,8 @@ module _ (h : Header) (in-range : T (headerInRange h)) (found : List Found) (i :
     -- a word on a pair
     binary : (x : Line) (a b : ℕ) (f : ℕ → ℕ → ℕ → ℕ → Step Found ℕ)
         → ((s l s′ l′ : ℕ) → scaleIn found a ≡ s → levelIn found a ≡ l → scaleIn found b ≡ s′ → levelIn found b ≡ l′ → Outcome AnyReason (Ruled h found i x) (f s l s′ l′))
-        → Outcome AnyReason (Ruled h found i x) (andThen (operand (checkMachine h) held a) (λ v. andThen (operand (checkMachine h) held b) (onPair f v)))
-    binary x a b f k = one x a (λ v. andThen (operand (checkMachine h) held b) (onPair f v))
+        → Outcome AnyReason (Ruled h found i x) (andThen (heldBy (checkMachine h) held a) (λ v. andThen (heldBy (checkMachine h) held b) (onPair f v)))
+    binary x a b f k = one x a (λ v. andThen (heldBy (checkMachine h) held b) (onPair f v))
         (λ v p q. one x b (onPair f v)
         (λ w r u. on-pair AnyReason (Ruled h found i x) f v w (λ t. tt) (k (scaleOf v) (levelOf v) (scaleOf w) (levelOf w) p q r u)))
 
@@ -154,7 +158,8 @@ module _ (h : Header) (in-range : T (headerInRange h)) (found : List Found) (i :
     ruled (Enc a s e) = one (Enc a s e) a (onBare (bounded h Founds.Encoded (pos s) (pos e)))
         (λ v p q. on-bare AnyReason (Ruled h found i (Enc a s e)) (bounded h Founds.Encoded (pos s) (pos e)) v (λ t. tt)
         (on-bounded AnyReason (Ruled h found i (Enc a s e)) h Founds.Encoded (pos s) (pos e)
-        (λ t u. let y = tested h (header-facts h in-range .waterline .least) (pos s) (pos e) t u in record { in-bounds = y .bounds; bounds = λ c. y .bounds; rule = λ r w. (r, w) }) tt tt))
+        (λ t u. let y = tested h (header-facts h in-range .waterline .least) (pos s) (pos e) t u in record { in-bounds = y .bounds; bounds = λ c. y .bounds; rule = λ r w. (r, w) })
+        tt tt))
     ruled (Rs a c) = unary (Rs a c) a (λ s l. pos s -ℤ pos (h .factor * c)) (λ s l. pos l -ℤ pos c)
         (λ s l p q t r u. omega (arith, taken s (h .factor * c) (t .whole-scale), taken l c (t .whole-level)))
     ruled (Ms a c) = unary (Ms a c) a (λ s l. pos s) (λ s l. pos l -ℤ pos c) (λ s l p q t r u. omega (arith, taken l c (t .whole-level)))
@@ -213,7 +218,20 @@ module _ (h : Header) (scale level : ℕ → ℕ) where
   pair-numbers : (j k : Kind) → T (isPair Schedule j k) → T (isCiphertext j || isEncoded j) × T (isCiphertext k || isEncoded k)
   pair-numbers j k t = or-cases (isCiphertext j && (isCiphertext k || isEncoded k)) (isEncoded j && isCiphertext k) t
       (λ p. (or-first (isCiphertext j) (isEncoded j) (and-first (isCiphertext j) (isCiphertext k || isEncoded k) p), and-second (isCiphertext j) (isCiphertext k || isEncoded k) p))
-      (λ p. (or-second (isCiphertext j) (isEncoded j) (and-first (isEncoded j) (isCiphertext k) p), or-first (isCiphertext k) (isEncoded k) (and-second (isEncoded j) (isCiphertext k) p)))
+      (λ p. (
+        or-second (isCiphertext j) (isEncoded j) (and-first (isEncoded j) (isCiphertext k) p),
+        or-first (isCiphertext k) (isEncoded k) (and-second (isEncoded j) (isCiphertext k) p),
+      ))
+
+  -- a word on one ciphertext and on a pair: it finds the scales and levels that keep the rules
+  module _ (A : ℕ → Type 0) (P : Found → Type 0) where
+    pub on-operand : (a : ℕ) (f : ℕ → ℕ → Step Found ℕ) → (Bounds h (scale a) (level a) → Outcome A P (f (scale a) (level a))) → OnOperand A Agrees P a Ciphertext (onCiphertext f)
+    on-operand a f r v g = on-ciphertext A P f v (λ t. absurd (subst (λ (k : Kind). T (not (isCiphertext k))) (g .kind) t)) (rw (g .scale-is tt, g .level-is tt) (r (g .bounds tt)))
+
+    pub on-operands : (a b : ℕ) (f : ℕ → ℕ → ℕ → ℕ → Step Found ℕ) → Outcome A P (f (scale a) (level a) (scale b) (level b)) → OnOperands A Agrees P Schedule a b (onPair f)
+    on-operands a b f r j k v w t p q = on-pair A P f v w
+        (λ n. absurd (T-not (isPair Schedule (foundKind v) (foundKind w)) n (subst₂ (λ (j k : Kind). T (isPair Schedule j k)) (sym (p .kind)) (sym (q .kind)) t)))
+        (let n = pair-numbers j k t in rw (p .scale-is (n .0), p .level-is (n .0), q .scale-is (n .1), q .level-is (n .1)) r)
 
   module _ (i : ℕ) where
     abbrev Holds : Line → Found → Type 0
@@ -230,17 +248,13 @@ module _ (h : Header) (scale level : ℕ → ℕ) where
     on-one : (x : Line) (a : ℕ) (s l : ℕ → ℕ → ℤ) → s (scale a) (level a) ≡ pos (scale i) → l (scale a) (level a) ≡ pos (level i)
         → (Bounds h (scale a) (level a) → Bounds h (scale i) (level i)) → (Bounds h (scale i) (level i) → Holds x (Founds.Ciphertext (scale i) (level i)))
         → OnOne NoReason Agrees i x a Ciphertext (onCiphertext (λ u w. bounded h Founds.Ciphertext (s u w) (l u w)))
-    on-one x a s l e f b r v g = on-ciphertext NoReason (Holds x) (λ u w. bounded h Founds.Ciphertext (s u w) (l u w)) v
-        (λ t. subst (λ (k : Kind). T (not (isCiphertext k))) (g .kind) t)
-        (settled (Holds x) Founds.Ciphertext (s (scaleOf v) (levelOf v)) (l (scaleOf v) (levelOf v)) (ap₂ s (g .scale-is tt) (g .level-is tt) ∙ e) (ap₂ l (g .scale-is tt) (g .level-is tt) ∙ f)
-        (b (g .bounds tt)) (r (b (g .bounds tt))))
+    on-one x a s l e f b r = on-operand NoReason (Holds x) a (λ u w. bounded h Founds.Ciphertext (s u w) (l u w))
+        (λ c. settled (Holds x) Founds.Ciphertext (s (scale a) (level a)) (l (scale a) (level a)) e f (b c) (r (b c)))
 
     -- a word on a pair
     on-two : (x : Line) (a b : ℕ) (f : ℕ → ℕ → ℕ → ℕ → Step Found ℕ) → Outcome NoReason (Holds x) (f (scale a) (level a) (scale b) (level b))
         → OnTwo NoReason Agrees Schedule i x a b (onPair f)
-    on-two x a b f r j k v w t p q = on-pair NoReason (Holds x) f v w
-        (λ n. T-not (isPair Schedule (foundKind v) (foundKind w)) n (subst₂ (λ (j k : Kind). T (isPair Schedule j k)) (sym (p .kind)) (sym (q .kind)) t))
-        (let n = pair-numbers j k t in rw (p .scale-is (n .0), p .level-is (n .0), q .scale-is (n .1), q .level-is (n .1)) r)
+    on-two x a b f r = on-operands NoReason (Holds x) a b f r
 
     duty : (x : Line) → T (isWord Schedule x) → Rule h scale level i x → (T (hasScale x) → Bounds h (scale i) (level i)) → Duty (checkMachine h) NoReason Agrees Schedule i x
     duty In w r b = λ k. settled (Holds In) Founds.Ciphertext (pos (h .waterline)) (pos (h .top)) (ap pos (sym (r .0))) (ap pos (sym (r .1))) (b tt) (λ u. is-found (b tt))
@@ -255,7 +269,8 @@ module _ (h : Header) (scale level : ℕ → ℕ) where
         (λ e. settled (Holds (Mul a b)) Founds.Ciphertext (pos (scale a + scale b)) (pos (level a)) (ap pos (sym (r .2))) (ap pos (sym (r .1))) (c tt) (λ u. is-found (c tt))))
     duty (Out a) w r b = on-one (Out a) a (λ s l. pos s) (λ s l. pos l) (ap pos (sym (r .0))) (ap pos (sym (r .1)))
         (λ c. subst₂ (Bounds h) (sym (r .0)) (sym (r .1)) c) (λ c u. absurd u)
-    duty (Enc a s e) w r b = λ v g. on-bare NoReason (Holds (Enc a s e)) (bounded h Founds.Encoded (pos s) (pos e)) v (λ t. subst (λ (k : Kind). T (not (isConstant k))) (g .kind) t)
+    duty (Enc a s e) w r b =
+        λ v g. on-bare NoReason (Holds (Enc a s e)) (bounded h Founds.Encoded (pos s) (pos e)) v (λ t. subst (λ (k : Kind). T (not (isConstant k))) (g .kind) t)
         (settled (Holds (Enc a s e)) Founds.Encoded (pos s) (pos e) (ap pos (sym (r .0))) (ap pos (sym (r .1))) (b tt)
         (λ u. record { kind = refl; scale-is = λ t. refl; level-is = λ t. refl; bounds = λ t. b tt }))
     duty (Rs a c) w r b = on-one (Rs a c) a (λ s l. pos s -ℤ pos (h .factor * c)) (λ s l. pos l -ℤ pos c)
@@ -270,7 +285,7 @@ pub keeps-agrees : (h : Header) (s : List Line) → T (wellFormed Schedule h s) 
     → (found : List Found) × (run (checkMachine h) s ≡ finished found) × Matched (Agrees h (k .scale) (k .level)) s found
 keeps-agrees h s t k = finishes (run (checkMachine h) s) (formed-run (checkMachine h) NoReason (Agrees h (k .scale) (k .level)) Schedule h s (well-lines Schedule h s t) at-line)
   where
-    at-line : (before : List Line) (x : Line) (rest : List Line) → before ++ (x ∷ rest) ≡ s → T (isWord Schedule x) → T (inRange Schedule h x)
+    at-line : (before : List Line) (x : Line) (rest : List Line) → before ++ (x ∷ rest) ≡ s → T (isWord Schedule x) → T (inRange h x)
         → Duty (checkMachine h) NoReason (Agrees h (k .scale) (k .level)) Schedule (length before) x
     at-line before x rest e w q =
         let p = line-place before x rest e in

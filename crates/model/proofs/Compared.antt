@@ -7,88 +7,87 @@ use mathlib.Core.Logic.{_⊎_, inl, inr}
 use mathlib.Core.Bool.{not, _&&_}
 use mathlib.Core.List.{List, [], _∷_, nil≢cons, head-eq-of-cons-eq, tail-eq-of-cons-eq}
 use lib.Dec.{T, T-not, eqb, eqb→eq, eqb-refl}
-use lib.ListN.{getD, take}
+use lib.ListN.{take}
 use lib.IntN.{ℤ, pos, negsuc}
 use Rattle.ints.specs.Parts.{positive, negative}
 use Rattle.model.specs.declared.Header.{Header}
 use Rattle.model.specs.declared.Line.{Line}
-use Rattle.model.specs.declared.Line.the-variants.{In, Const, Neg, Rot, Add, Mul, Out, Enc, Rs, Ms, Us, Free}
 use Rattle.model.specs.declared.Grammar.the-variants.{Circuit, Schedule}
 use Rattle.model.specs.declared.Answer.{Answer}
 use Rattle.model.specs.declared.Answer.the-variants.{Done, Level, Refused}
-use Rattle.model.specs.Files.{placeOf, wellFormed, File}
+use Rattle.rows.specs.Rows.{placeOf}
+use Rattle.model.specs.Files.{said, nth, lineOf, wordOf, wellFormed, File}
+use Rattle.model.specs.Scales.{headerNumbers}
+use Rattle.model.specs.Words.{order, sameWord}
 use Rattle.model.specs.Machine.{Run, finished, stopped, run}
 use Rattle.model.specs.Services.{erase}
 use Rattle.model.specs.declared.Found.{Found}
-use Rattle.model.specs.Refused.{checkMachine, codeOf, sameNumbers, sameLine, sameHeader, compared, rulesAnswer, check}
-use Rattle.model.specs.Demands.{Passed}
+use Rattle.model.specs.Refused.{checkMachine, sameNumbers, sameLine, sameHeader, compared, rulesAnswer, check}
+use Rattle.model.proofs.Statements.Check.{PassedFiles}
 use Rattle.model.proofs.Statements.Check.{OtherCircuit, other-header, other-lines, ByRules, Judges}
 use Rattle.model.proofs.Tests.{and-first, and-second, and-both, cond-cases, cond-true}
+use Rattle.model.proofs.EveryWord.{same-word, line-said}
 use Rattle.model.proofs.Checked.{verdict}
 
--- ---- lines
-pub same-numbers : (ms ns : List ℕ) → T (sameNumbers ms ns) → ms ≡ ns
-same-numbers [] [] t = refl
-same-numbers [] (n ∷ ns) t = absurd t
-same-numbers (m ∷ ms) [] t = absurd t
-same-numbers (m ∷ ms) (n ∷ ns) t =
-    ap₂ _∷_ (eqb→eq m n (and-first (eqb m n) (sameNumbers ms ns) t)) (same-numbers ms ns (and-second (eqb m n) (sameNumbers ms ns) t))
-
-pub numbers-same : (ns : List ℕ) → T (sameNumbers ns ns)
-numbers-same [] = tt
-numbers-same (n ∷ ns) = and-both (eqb n n) (sameNumbers ns ns) (eqb-refl n) (numbers-same ns)
-
+-- ---- numbers
 unfoldable pub rejoined : ℕ → ℕ → ℤ
 rejoined p zero = pos p
 rejoined p (suc n) = negsuc n
-
--- the line with that code
-unfoldable pub lineOf : List ℕ → Line
-lineOf code =
-    let a = getD code 1 0 in
-    let b = getD code 2 0 in
-    let c = getD code 3 0 in
-    getD (In ∷ Const a ∷ Neg a ∷ Rot a (rejoined b c) ∷ Add a b ∷ Mul a b ∷ Out a ∷ Enc a b c ∷ Rs a b ∷ Ms a b ∷ Us a b ∷ []) (getD code 0 11) Free
 
 pub rejoined-parts : (t : ℤ) → rejoined (positive t) (negative t) ≡ t
 unfolding rejoined
 rejoined-parts (pos n) = refl
 rejoined-parts (negsuc n) = refl
 
-pub lineOf-code : (x : Line) → lineOf (codeOf x) ≡ x
-unfolding lineOf
-lineOf-code In = refl
-lineOf-code (Const k) = refl
-lineOf-code (Neg a) = refl
-lineOf-code (Rot a t) = ap (Rot a) (rejoined-parts t)
-lineOf-code (Add a b) = refl
-lineOf-code (Mul a b) = refl
-lineOf-code (Out a) = refl
-lineOf-code (Enc a s e) = refl
-lineOf-code (Rs a c) = refl
-lineOf-code (Ms a c) = refl
-lineOf-code (Us a b) = refl
-lineOf-code Free = refl
+same-parts : (m n : ℤ) → positive m ≡ positive n → negative m ≡ negative n → m ≡ n
+same-parts m n p q = sym (rejoined-parts m) ∙ ap₂ rejoined p q ∙ rejoined-parts n
 
+pub same-numbers : (ms ns : List ℤ) → T (sameNumbers ms ns) → ms ≡ ns
+same-numbers [] [] t = refl
+same-numbers [] (n ∷ ns) t = absurd t
+same-numbers (m ∷ ms) [] t = absurd t
+same-numbers (m ∷ ms) (n ∷ ns) t =
+    let up = eqb (positive m) (positive n) in
+    let down = eqb (negative m) (negative n) in
+    let two = and-second up (down && sameNumbers ms ns) t in
+    ap₂ _∷_
+    (same-parts m n (eqb→eq (positive m) (positive n) (and-first up (down && sameNumbers ms ns) t))
+    (eqb→eq (negative m) (negative n) (and-first down (sameNumbers ms ns) two)))
+    (same-numbers ms ns (and-second down (sameNumbers ms ns) two))
+
+pub numbers-same : (ns : List ℤ) → T (sameNumbers ns ns)
+numbers-same [] = tt
+numbers-same (n ∷ ns) =
+    let up = eqb (positive n) (positive n) in
+    let down = eqb (negative n) (negative n) in
+    and-both up (down && sameNumbers ns ns) (eqb-refl (positive n)) (and-both down (sameNumbers ns ns) (eqb-refl (negative n)) (numbers-same ns))
+
+-- ---- lines
 pub same-line : (x y : Line) → T (sameLine x y) → x ≡ y
-same-line x y t = sym (lineOf-code x) ∙ ap lineOf (same-numbers (codeOf x) (codeOf y) t) ∙ lineOf-code y
+same-line x y t =
+    let words = sameWord (wordOf x) (wordOf y) in
+    let numbers = sameNumbers (said x .numbers) (said y .numbers) in
+    sym (line-said x)
+    ∙ ap₂ lineOf (same-word (wordOf x) (wordOf y) (and-first words numbers t)) (same-numbers (said x .numbers) (said y .numbers) (and-second words numbers t))
+    ∙ line-said y
 
 pub line-same : (x : Line) → T (sameLine x x)
-line-same x = numbers-same (codeOf x)
+line-same x =
+    and-both (sameWord (wordOf x) (wordOf x)) (sameNumbers (said x .numbers) (said x .numbers)) (eqb-refl (order (wordOf x))) (numbers-same (said x .numbers))
 
 -- ---- headers
+header-from : List ℤ → Header
+header-from ns = record { factor = nth ns 0; waterline = nth ns 1; top = nth ns 2 }
+
+header-back : (h : Header) → header-from (headerNumbers h) ≡ h
+unfolding header-from
+header-back h = refl
+
 pub same-header : (h k : Header) → T (sameHeader h k) → h ≡ k
-same-header h k t =
-    let two = and-second (eqb (h .factor) (k .factor)) (eqb (h .waterline) (k .waterline) && eqb (h .top) (k .top)) t in
-    let p = eqb→eq (h .factor) (k .factor) (and-first (eqb (h .factor) (k .factor)) (eqb (h .waterline) (k .waterline) && eqb (h .top) (k .top)) t) in
-    let q = eqb→eq (h .waterline) (k .waterline) (and-first (eqb (h .waterline) (k .waterline)) (eqb (h .top) (k .top)) two) in
-    let r = eqb→eq (h .top) (k .top) (and-second (eqb (h .waterline) (k .waterline)) (eqb (h .top) (k .top)) two) in
-    λ i. record { factor = p i; waterline = q i; top = r i }
+same-header h k t = sym (header-back h) ∙ ap header-from (same-numbers (headerNumbers h) (headerNumbers k) t) ∙ header-back k
 
 pub header-same : (h : Header) → T (sameHeader h h)
-header-same h =
-    and-both (eqb (h .factor) (h .factor)) (eqb (h .waterline) (h .waterline) && eqb (h .top) (h .top)) (eqb-refl (h .factor))
-    (and-both (eqb (h .waterline) (h .waterline)) (eqb (h .top) (h .top)) (eqb-refl (h .waterline)) (eqb-refl (h .top)))
+header-same h = numbers-same (headerNumbers h)
 
 -- ---- the two files
 refused-done : {P : Type 0} (n p : ℕ) → Refused n p ≡ Done → P
@@ -124,7 +123,8 @@ compared-level n [] [] o l f e = f e
 compared-level n [] (y ∷ ys) o l f e = refused-level 12 (placeOf n) l e
 compared-level n (x ∷ xs) [] o l f e = refused-level 12 (placeOf n) l e
 compared-level n (x ∷ xs) (y ∷ ys) o l f e =
-    cond-cases (λ (a : Answer). a ≡ Level l → ⊥) (sameLine x y) (compared (suc n) xs ys o) (Refused 12 (placeOf n)) (λ t. compared-level (suc n) xs ys o l f) (λ t. refused-level 12 (placeOf n) l) e
+    cond-cases (λ (a : Answer). a ≡ Level l → ⊥) (sameLine x y) (compared (suc n) xs ys o) (Refused 12 (placeOf n)) (λ t. compared-level (suc n) xs ys o l f)
+    (λ t. refused-level 12 (placeOf n) l) e
 
 pub compared-same : (n : ℕ) (xs : List Line) (otherwise : Answer) → compared n xs xs otherwise ≡ otherwise
 compared-same n [] o = refl
@@ -148,42 +148,72 @@ compared-refused n (x ∷ xs) [] o m p e = inl (refused-number e, here (refused-
     here : placeOf n ≡ p → (take 1 (x ∷ xs) ≡ take 1 [] → ⊥) → Differ n (x ∷ xs) [] p
     here q f = record { offset = 0; place-is = sym q ∙ ap placeOf (omega arith); before = refl; with-it = f }
 compared-refused n (x ∷ xs) (y ∷ ys) o m p e =
-    cond-cases (λ (a : Answer). a ≡ Refused m p → ((m ≡ 12) × Differ n (x ∷ xs) (y ∷ ys) p) ⊎ ((x ∷ xs ≡ y ∷ ys) × (o ≡ Refused m p))) (sameLine x y) (compared (suc n) xs ys o) (Refused 12 (placeOf n))
+    cond-cases (λ (a : Answer). a ≡ Refused m p → ((m ≡ 12) × Differ n (x ∷ xs) (y ∷ ys) p) ⊎ ((x ∷ xs ≡ y ∷ ys) × (o ≡ Refused m p))) (sameLine x y) (compared (suc n) xs ys o)
+    (Refused 12 (placeOf n))
     (λ t f. later (same-line x y t) (compared-refused (suc n) xs ys o m p f)) (λ t f. inl (refused-number f, here (refused-place f) t)) e
   where
     later : x ≡ y → ((m ≡ 12) × Differ (suc n) xs ys p) ⊎ ((xs ≡ ys) × (o ≡ Refused m p)) → ((m ≡ 12) × Differ n (x ∷ xs) (y ∷ ys) p) ⊎ ((x ∷ xs ≡ y ∷ ys) × (o ≡ Refused m p))
     later q (inr (r, f)) = inr (ap₂ _∷_ q r, f)
-    later q (inl (r, d)) = inl (r, record { offset = suc (d .offset); place-is = d .place-is ∙ ap placeOf (omega arith); before = ap₂ _∷_ q (d .before); with-it = λ w. d .with-it (tail-eq-of-cons-eq w) })
+    later q (inl (r, d)) =
+        inl (
+          r,
+          record {
+            offset = suc (d .offset);
+            place-is = d .place-is ∙ ap placeOf (omega arith);
+            before = ap₂ _∷_ q (d .before);
+            with-it =
+                λ w. d .with-it (tail-eq-of-cons-eq w);
+          },
+        )
 
     here : placeOf n ≡ p → T (not (sameLine x y)) → Differ n (x ∷ xs) (y ∷ ys) p
-    here q t = record { offset = 0; place-is = sym q ∙ ap placeOf (omega arith); before = refl; with-it = λ w. T-not (sameLine x y) t (subst (λ (z : Line). T (sameLine x z)) (head-eq-of-cons-eq w) (line-same x)) }
+    here q t = record {
+      offset = 0;
+      place-is = sym q ∙ ap placeOf (omega arith);
+      before = refl;
+      with-it =
+          λ w. T-not (sameLine x y) t (subst (λ (z : Line). T (sameLine x z)) (head-eq-of-cons-eq w) (line-same x));
+    }
 
 module _ (circuit schedule : File) (t : T (wellFormed Circuit (circuit .header) (circuit .lines))) (u : T (wellFormed Schedule (schedule .header) (schedule .lines))) where
   abbrev rest : Answer
   rest = rulesAnswer (schedule .header) (schedule .lines)
 
-  done-passed : check circuit schedule ≡ Done → Passed circuit schedule
-  done-passed e = cond-cases (λ (a : Answer). a ≡ Done → Passed circuit schedule) (sameHeader (circuit .header) (schedule .header)) (compared 0 (circuit .lines) (erase (schedule .lines)) rest) (Refused 12 1)
+  done-passed : check circuit schedule ≡ Done → PassedFiles circuit schedule
+  done-passed e = cond-cases (λ (a : Answer). a ≡ Done → PassedFiles circuit schedule) (sameHeader (circuit .header) (schedule .header))
+      (compared 0 (circuit .lines) (erase (schedule .lines)) rest) (Refused 12 1)
       (λ p f.
       let r = compared-done 0 (circuit .lines) (erase (schedule .lines)) rest f in
       let q = same-header (circuit .header) (schedule .header) p in
-      record { circuit-formed = t; schedule-formed = u; keeps = verdict (schedule .header) (schedule .lines) u .0 (r .1); erases = λ i. record { header = sym q i; lines = sym (r .0) i } })
+      record {
+        circuit-formed = t;
+        schedule-formed = u;
+        keeps = verdict (schedule .header) (schedule .lines) u .0 (r .1);
+        erases =
+            λ i. record { header = sym q i; lines = sym (r .0) i };
+      })
       (λ p f. refused-done 12 1 f) e
 
-  passed-done : Passed circuit schedule → check circuit schedule ≡ Done
+  passed-done : PassedFiles circuit schedule → check circuit schedule ≡ Done
   passed-done p =
       cond-true (sameHeader (circuit .header) (schedule .header)) (compared 0 (circuit .lines) (erase (schedule .lines)) rest) (Refused 12 1)
       (subst (λ (f : File). T (sameHeader (f .header) (schedule .header))) (p .erases) (header-same (schedule .header)))
-      ∙ ap (λ (l : List Line). compared 0 (circuit .lines) l rest) (λ i. p .erases i .lines) ∙ compared-same 0 (circuit .lines) rest ∙ verdict (schedule .header) (schedule .lines) u .1 (p .keeps)
+      ∙ ap (λ (l : List Line). compared 0 (circuit .lines) l rest) (λ i. p .erases i .lines) ∙ compared-same 0 (circuit .lines) rest
+      ∙ verdict (schedule .header) (schedule .lines) u .1 (p .keeps)
 
   refuses : (n p : ℕ) → check circuit schedule ≡ Refused n p → ((n ≡ 12) × OtherCircuit circuit schedule p) ⊎ ByRules circuit schedule n p
   refuses n p e =
       cond-cases (λ (a : Answer). a ≡ Refused n p → ((n ≡ 12) × OtherCircuit circuit schedule p) ⊎ ByRules circuit schedule n p) (sameHeader (circuit .header) (schedule .header))
       (compared 0 (circuit .lines) (erase (schedule .lines)) rest) (Refused 12 1)
       (λ t f. by-lines (same-header (circuit .header) (schedule .header) t) (compared-refused 0 (circuit .lines) (erase (schedule .lines)) rest n p f))
-      (λ t f. inl (refused-number f, other-header (λ q. T-not (sameHeader (circuit .header) (schedule .header)) t (subst (λ (k : Header). T (sameHeader (circuit .header) k)) q (header-same (circuit .header)))) (sym (refused-place f)))) e
+      (λ t f. inl (
+        refused-number f,
+        other-header (λ q. T-not (sameHeader (circuit .header) (schedule .header)) t
+            (subst (λ (k : Header). T (sameHeader (circuit .header) k)) q (header-same (circuit .header)))) (sym (refused-place f)),
+      )) e
     where
-      by-lines : circuit .header ≡ schedule .header → ((n ≡ 12) × Differ 0 (circuit .lines) (erase (schedule .lines)) p) ⊎ ((circuit .lines ≡ erase (schedule .lines)) × (rest ≡ Refused n p))
+      by-lines : circuit .header ≡ schedule .header
+          → ((n ≡ 12) × Differ 0 (circuit .lines) (erase (schedule .lines)) p) ⊎ ((circuit .lines ≡ erase (schedule .lines)) × (rest ≡ Refused n p))
           → ((n ≡ 12) × OtherCircuit circuit schedule p) ⊎ ByRules circuit schedule n p
       by-lines q (inl (r, d)) = inl (r, other-lines q (record { line = d .offset; place-is = d .place-is ∙ ap placeOf (omega arith); before = d .before; with-it = d .with-it }))
       by-lines q (inr (r, f)) = inr (record { same-header = q; same-lines = r; by-rules = f })

@@ -13,8 +13,9 @@ use Rattle.model.specs.declared.Line.the-variants.{Free}
 use Rattle.model.specs.declared.Grammar.the-variants.{Schedule}
 use Rattle.model.specs.declared.Kind.{Kind}
 use Rattle.model.specs.Files.{kindOf, kindAt, lineFormed, linesFormed}
-use Rattle.model.specs.Machine.{goes, Run, finished, stopped, orAbsent, operand, step, run}
-use Rattle.model.specs.Services.{kept, madeFrom, fateOf, renumbered, erase, origins, keptLines}
+use Rattle.model.specs.Machine.{goes, Run, finished, stopped, orAbsent, heldBy, step, run}
+use Rattle.model.specs.Services.{kept, madeFrom, fateOf, renumbered, erase, keptLines}
+use Rattle.model.proofs.Statements.Erasing.{origins}
 use Rattle.model.specs.declared.Found.{Found}
 use Rattle.model.specs.Refused.{checkMachine}
 use Rattle.model.proofs.Lists.{length-snoc, found-after, found-last, found-is}
@@ -46,8 +47,8 @@ module _ (h : Header) where
   pub kind-at : {lines : List Line} {i : ℕ} {f : Found} {k : Kind} {o : ℕ} → Stands lines i f k o → kindAt lines i ≡ k
   kind-at {lines} {i} s = ap kindOf (found-is lines i Free (s .there)) ∙ s .kind
 
-  -- what the check reads at an operand
-  pub reads : {lines : List Line} {i : ℕ} {f : Found} {k : Kind} {o : ℕ} → Stands lines i f k o → operand (checkMachine h) (foundIn lines) i ≡ goes f
+  -- what the check reads at an heldBy
+  pub reads : {lines : List Line} {i : ℕ} {f : Found} {k : Kind} {o : ℕ} → Stands lines i f k o → heldBy (checkMachine h) (foundIn lines) i ≡ goes f
   reads s = ap (orAbsent 4) (s .found)
 
   -- After at most n lines more: the draft is sound, value i stands, and what stood before stands still.
@@ -57,14 +58,16 @@ module _ (h : Header) where
     pub stands : Stands lines i f k o
     pub still : (j : ℕ) (g : Found) (m : Kind) (p : ℕ) → Stands before j g m p → Stands lines j g m p
 
-  module _ (lines : List Line) (x : Line) (f : Found) (e : run (checkMachine h) lines ≡ finished (foundIn lines)) (goes-on : (n : ℕ) → step (checkMachine h) n (foundIn lines) x ≡ goes f) where
+  module _ (lines : List Line) (x : Line) (f : Found) (e : run (checkMachine h) lines ≡ finished (foundIn lines))
+      (goes-on : (n : ℕ) → step (checkMachine h) n (foundIn lines) x ≡ goes f) where
     snoc-runs : run (checkMachine h) (lines ++ (x ∷ [])) ≡ finished (foundIn lines ++ (f ∷ []))
     snoc-runs = run-snoc (checkMachine h) lines x e goes-on
 
     snoc-found : foundIn (lines ++ (x ∷ [])) ≡ foundIn lines ++ (f ∷ [])
     snoc-found = ap (λ (r : Run Found ℕ). elim r as (λ q. List Found) [ finished found ↦ found | stopped i n ↦ [] ]) snoc-runs
 
-    still-there : (o′ : ℕ) → origins (lines ++ (x ∷ [])) ≡ origins lines ++ (o′ ∷ []) → (j : ℕ) (g : Found) (m : Kind) (p : ℕ) → Stands lines j g m p → Stands (lines ++ (x ∷ [])) j g m p
+    still-there : (o′ : ℕ) → origins (lines ++ (x ∷ [])) ≡ origins lines ++ (o′ ∷ []) → (j : ℕ) (g : Found) (m : Kind) (p : ℕ) → Stands lines j g m p
+        → Stands (lines ++ (x ∷ [])) j g m p
     still-there o′ q j g m p s =
         record {
           found = ap (λ (l : List Found). getElem? l j) snoc-found ∙ found-after (foundIn lines) (f ∷ []) j (s .found);
@@ -74,7 +77,8 @@ module _ (h : Header) where
           origin = ap (λ (l : List ℕ). getElem? l j) q ∙ found-after (origins lines) (o′ ∷ []) j (s .origin);
         }
 
-    new-stands : (o : ℕ) → length (foundIn lines) ≡ length lines → length (origins lines) ≡ length lines → origins (lines ++ (x ∷ [])) ≡ origins lines ++ (o ∷ []) → Stands (lines ++ (x ∷ [])) (length lines) f (kindOf x) o
+    new-stands : (o : ℕ) → length (foundIn lines) ≡ length lines → length (origins lines) ≡ length lines → origins (lines ++ (x ∷ [])) ≡ origins lines ++ (o ∷ [])
+        → Stands (lines ++ (x ∷ [])) (length lines) f (kindOf x) o
     new-stands o l t q =
         record {
           found = ap (λ (s : List Found). getElem? s (length lines)) snoc-found ∙ ap (getElem? (foundIn lines ++ (f ∷ []))) (sym l) ∙ found-last (foundIn lines) f;
@@ -84,8 +88,10 @@ module _ (h : Header) where
           origin = ap (λ (s : List ℕ). getElem? s (length lines)) q ∙ ap (getElem? (origins lines ++ (o ∷ []))) (sym t) ∙ found-last (origins lines) o;
         }
 
-    grown : (c : List Line) (numbers : List ℕ) (o : ℕ) → T (linesFormed Schedule h [] lines) → T (lineFormed Schedule h lines x) → length (foundIn lines) ≡ length lines → length (origins lines) ≡ length lines
-        → erase (lines ++ (x ∷ [])) ≡ c → keptLines (lines ++ (x ∷ [])) ≡ numbers → origins (lines ++ (x ∷ [])) ≡ origins lines ++ (o ∷ []) → Grown 1 lines (lines ++ (x ∷ [])) c numbers (length lines) f (kindOf x) o
+    grown : (c : List Line) (numbers : List ℕ) (o : ℕ) → T (linesFormed Schedule h [] lines) → T (lineFormed Schedule h lines x) → length (foundIn lines) ≡ length lines
+        → length (origins lines) ≡ length lines
+        → erase (lines ++ (x ∷ [])) ≡ c → keptLines (lines ++ (x ∷ [])) ≡ numbers → origins (lines ++ (x ∷ [])) ≡ origins lines ++ (o ∷ [])
+        → Grown 1 lines (lines ++ (x ∷ [])) c numbers (length lines) f (kindOf x) o
     grown c numbers o p q l t er ke ori =
         record {
           few = omega (arith, length-snoc lines x);
@@ -103,7 +109,8 @@ module _ (h : Header) where
         }
 
   -- a line that stays: one line more of the circuit
-  pub emit-kept : {lines circuit : List Line} {numbers : List ℕ} (x y : Line) (f : Found) → Sound lines circuit numbers → fateOf x ≡ kept → ((n : ℕ) → step (checkMachine h) n (foundIn lines) x ≡ goes f)
+  pub emit-kept : {lines circuit : List Line} {numbers : List ℕ} (x y : Line) (f : Found) → Sound lines circuit numbers → fateOf x ≡ kept
+      → ((n : ℕ) → step (checkMachine h) n (foundIn lines) x ≡ goes f)
       → T (lineFormed Schedule h lines x) → renumbered (origins lines) (length (erase lines)) x ≡ y
       → Grown 1 lines (lines ++ (x ∷ [])) (circuit ++ (y ∷ [])) (numbers ++ (length lines ∷ [])) (length lines) f (kindOf x) (length circuit)
   emit-kept {lines} {circuit} {numbers} x y f s e g w r =
@@ -111,9 +118,11 @@ module _ (h : Header) where
       (erase-kept lines x e ∙ (λ i. s .erases i ++ (r i ∷ []))) (lines-kept lines x e ∙ ap (λ (l : List ℕ). l ++ (length lines ∷ [])) (s .kept-are))
       (origins-kept lines x e ∙ ap (λ (l : List Line). origins lines ++ (length l ∷ [])) (s .erases))
 
-  -- a line that is struck: it comes from where its operand comes from
-  pub emit-struck : {lines circuit : List Line} {numbers : List ℕ} {a : ℕ} {g : Found} {k : Kind} {o : ℕ} (x : Line) (f : Found) → Sound lines circuit numbers → Stands lines a g k o → fateOf x ≡ madeFrom a
-      → ((n : ℕ) → step (checkMachine h) n (foundIn lines) x ≡ goes f) → T (lineFormed Schedule h lines x) → Grown 1 lines (lines ++ (x ∷ [])) circuit numbers (length lines) f (kindOf x) o
+  -- a line that is struck: it comes from where its heldBy comes from
+  pub emit-struck : {lines circuit : List Line} {numbers : List ℕ} {a : ℕ} {g : Found} {k : Kind} {o : ℕ} (x : Line) (f : Found) → Sound lines circuit numbers
+      → Stands lines a g k o → fateOf x ≡ madeFrom a
+      → ((n : ℕ) → step (checkMachine h) n (foundIn lines) x ≡ goes f) → T (lineFormed Schedule h lines x)
+      → Grown 1 lines (lines ++ (x ∷ [])) circuit numbers (length lines) f (kindOf x) o
   emit-struck {lines} {circuit} {numbers} {a} {o} x f s t e g w =
       grown lines x f (s .checks) g circuit numbers o (s .formed) w (s .long) (s .traced)
       (erase-struck lines x a e ∙ s .erases) (lines-struck lines x a e ∙ s .kept-are)
@@ -129,7 +138,8 @@ module _ (h : Header) where
   none n s t = record { few = omega arith; sound = s; stands = t; still = λ q v w u x. x }
 
   -- a greater count
-  pub at-most : {n : ℕ} {before lines c : List Line} {ns : List ℕ} {i : ℕ} {f : Found} {k : Kind} {o : ℕ} (m : ℕ) → n ≤ m → Grown n before lines c ns i f k o → Grown m before lines c ns i f k o
+  pub at-most : {n : ℕ} {before lines c : List Line} {ns : List ℕ} {i : ℕ} {f : Found} {k : Kind} {o : ℕ} (m : ℕ) → n ≤ m → Grown n before lines c ns i f k o
+      → Grown m before lines c ns i f k o
   at-most m u g = record { few = omega (arith, g .few); sound = g .sound; stands = g .stands; still = g .still }
 
   -- the empty schedule

@@ -7,13 +7,11 @@ use mathlib.Core.Option.{some}
 use lib.ListN.{length, getD, getElem?}
 use Rattle.model.specs.declared.Line.{Line}
 use Rattle.model.specs.declared.Line.the-variants.{In, Const, Neg, Rot, Add, Mul, Out, Enc, Rs, Ms, Us, Free}
-use Rattle.model.specs.Machine.{Step, goes, stops, Run, finished, stopped, Machine, andThen, orAbsent, operand, step, countIn, runFrom, run}
-use Rattle.model.specs.Services.{Fate, kept, madeFrom, fateOf, renumbered, eraseFrom, originsFrom, erase, origins}
+use Rattle.model.specs.Machine.{Step, goes, stops, Run, finished, stopped, Machine, andThen, orAbsent, heldBy, step, countIn, runFrom, run}
+use Rattle.model.specs.Services.{Fate, kept, madeFrom, fateOf, renumbered, eraseFrom, erase}
+use Rattle.model.proofs.Statements.Erasing.{originsFrom, origins}
 use Rattle.model.proofs.Runs.{stops-goes, goes-is}
 use Rattle.model.proofs.Lists.{length-snoc, found-after, found-last, All2, nil2, cons2, snoc2, map2}
-
-abbrev byWord : ℕ → Line → Fate
-byWord i x = fateOf x
 
 -- the machine that passes through the struck lines
 abbrev pub through : {X E : Type 0} → Machine X E → Machine X E
@@ -52,24 +50,24 @@ module _ {X E : Type 0} where
   refines-then (goes x) t f g r n = subst (λ (u : Step X E). Refines (f x) (andThen u g)) (sym r) (n x)
 
 module _ {X E : Type 0} (M : Machine X E) where
-  look-refines : {O : List ℕ} {S : List X} (R : List X) (n : ℕ) → All2 (Holds R) O S → (a : ℕ) → Refines (operand M S a) (operand M R (getD O a n))
+  look-refines : {O : List ℕ} {S : List X} (R : List X) (n : ℕ) → All2 (Holds R) O S → (a : ℕ) → Refines (heldBy M S a) (heldBy M R (getD O a n))
   look-refines R n nil2 a = tt
   look-refines R n (cons2 q t) zero = ap (orAbsent (M .absent)) q
   look-refines R n (cons2 q t) (suc a) = look-refines R n t a
 
   module _ (k : ℕ) (O : List ℕ) (S R : List X) (n : ℕ) (r : All2 (Holds R) O S) where
-    one : (a : ℕ) (f : X → Step X E) → Refines (andThen (operand M S a) f) (andThen (operand M R (getD O a n)) f)
-    one a f = refines-then (operand M S a) (operand M R (getD O a n)) f f (look-refines R n r a) (λ x. refines-refl (f x))
+    one : (a : ℕ) (f : X → Step X E) → Refines (andThen (heldBy M S a) f) (andThen (heldBy M R (getD O a n)) f)
+    one a f = refines-then (heldBy M S a) (heldBy M R (getD O a n)) f f (look-refines R n r a) (λ x. refines-refl (f x))
 
     two : (a b : ℕ) (f : X → X → Step X E)
-        → Refines (andThen (operand M S a) (λ x. andThen (operand M S b) (f x))) (andThen (operand M R (getD O a n)) (λ x. andThen (operand M R (getD O b n)) (f x)))
-    two a b f = refines-then (operand M S a) (operand M R (getD O a n)) (λ x. andThen (operand M S b) (f x)) (λ x. andThen (operand M R (getD O b n)) (f x))
+        → Refines (andThen (heldBy M S a) (λ x. andThen (heldBy M S b) (f x))) (andThen (heldBy M R (getD O a n)) (λ x. andThen (heldBy M R (getD O b n)) (f x)))
+    two a b f = refines-then (heldBy M S a) (heldBy M R (getD O a n)) (λ x. andThen (heldBy M S b) (f x)) (λ x. andThen (heldBy M R (getD O b n)) (f x))
         (look-refines R n r a) (λ x. one b (f x))
 
     -- what is known of a line by its fate
     abbrev Known : Line → Fate → Type 0
     Known x kept = Refines (step (through M) k S x) (step M k R (renumbered O n x)) × (countIn (renumbered O n x) k ≡ countIn x k)
-    Known x (madeFrom a) = (step (through M) k S x ≡ andThen (operand M S a) goes) × (countIn x k ≡ k)
+    Known x (madeFrom a) = (step (through M) k S x ≡ andThen (heldBy M S a) goes) × (countIn x k ≡ k)
 
     known : (x : Line) → Known x (fateOf x)
     known In = (refines-refl (M .input k), refl)
@@ -98,14 +96,14 @@ module _ {X E : Type 0} (M : Machine X E) where
   more : (O : List ℕ) (S R : List X) (v : X) → All2 (Holds R) O S → All2 (Holds (R ++ (v ∷ []))) O S
   more O S R v r = map2 (λ o x h. found-after R (v ∷ []) o h) r
 
-  -- a struck line holds what its operand holds
-  struck-holds : {O : List ℕ} {S : List X} (R : List X) (n a : ℕ) (v : X) → All2 (Holds R) O S → andThen (operand M S a) goes ≡ goes v → getElem? R (getD O a n) ≡ some v
+  -- a struck line holds what its heldBy holds
+  struck-holds : {O : List ℕ} {S : List X} (R : List X) (n a : ℕ) (v : X) → All2 (Holds R) O S → andThen (heldBy M S a) goes ≡ goes v → getElem? R (getD O a n) ≡ some v
   struck-holds R n a v nil2 e = stops-goes e
   struck-holds R n zero v (cons2 q t) e = q ∙ ap some (goes-is e)
   struck-holds R n (suc a) v (cons2 q t) e = struck-holds R n a v t e
 
   pub erase-run : (xs : List Line) (k : ℕ) (O : List ℕ) (n : ℕ) (R S : List X) → n ≡ length R → All2 (Holds R) O S
-      → Into (runFrom (through M) k S xs) (runFrom M k R (eraseFrom byWord O n xs)) (originsFrom byWord O n xs)
+      → Into (runFrom (through M) k S xs) (runFrom M k R (eraseFrom O n xs)) (originsFrom O n xs)
   erase-run [] k O n R S e r = record { held = R; runs = refl; from-circuit = r }
   erase-run (x ∷ xs) k O n R S e r = go (fateOf x) (known k O S R n r x) (step (through M) k S x) refl
       (λ v r′. erase-run xs (countIn x k) (O ++ (n ∷ [])) (suc n) (R ++ (v ∷ [])) (S ++ (v ∷ [])) (ap suc e ∙ sym (length-snoc R v)) r′)
@@ -116,25 +114,30 @@ module _ {X E : Type 0} (M : Machine X E) where
 
       -- the circuit's side, as its step comes out
       onward : Step X E → Run X E
-      onward t = elim t [ goes v ↦ runFrom M (countIn (renumbered O n x) k) (R ++ (v ∷ [])) (eraseFrom byWord (O ++ (n ∷ [])) (suc n) xs) | stops d ↦ stopped (length R) d ]
+      onward t = elim t [ goes v ↦ runFrom M (countIn (renumbered O n x) k) (R ++ (v ∷ [])) (eraseFrom (O ++ (n ∷ [])) (suc n) xs) | stops d ↦ stopped (length R) d ]
 
       circuit : Fate → Run X E
-      circuit w = runFrom M k R (elim w [ kept ↦ renumbered O n x ∷ eraseFrom byWord (O ++ (n ∷ [])) (suc n) xs | madeFrom a ↦ eraseFrom byWord (O ++ (f a ∷ [])) n xs ])
+      circuit w = runFrom M k R (elim w [ kept ↦ renumbered O n x ∷ eraseFrom (O ++ (n ∷ [])) (suc n) xs | madeFrom a ↦ eraseFrom (O ++ (f a ∷ [])) n xs ])
 
       places : Fate → List ℕ
-      places w = elim w [ kept ↦ originsFrom byWord (O ++ (n ∷ [])) (suc n) xs | madeFrom a ↦ originsFrom byWord (O ++ (f a ∷ [])) n xs ]
+      places w = elim w [ kept ↦ originsFrom (O ++ (n ∷ [])) (suc n) xs | madeFrom a ↦ originsFrom (O ++ (f a ∷ [])) n xs ]
 
       go : (w : Fate) → Known k O S R n r x w → (s : Step X E) → step (through M) k S x ≡ s
-          → ((v : X) → All2 (Holds (R ++ (v ∷ []))) (O ++ (n ∷ [])) (S ++ (v ∷ [])) → Into (runFrom (through M) (countIn x k) (S ++ (v ∷ [])) xs) (runFrom M (countIn x k) (R ++ (v ∷ [])) (eraseFrom byWord (O ++ (n ∷ [])) (suc n) xs)) (originsFrom byWord (O ++ (n ∷ [])) (suc n) xs))
-          → ((o : ℕ) (v : X) → All2 (Holds R) (O ++ (o ∷ [])) (S ++ (v ∷ [])) → Into (runFrom (through M) (countIn x k) (S ++ (v ∷ [])) xs) (runFrom M (countIn x k) R (eraseFrom byWord (O ++ (o ∷ [])) n xs)) (originsFrom byWord (O ++ (o ∷ [])) n xs))
+          → ((v : X) → All2 (Holds (R ++ (v ∷ []))) (O ++ (n ∷ [])) (S ++ (v ∷ []))
+          → Into (runFrom (through M) (countIn x k) (S ++ (v ∷ [])) xs) (runFrom M (countIn x k) (R ++ (v ∷ [])) (eraseFrom (O ++ (n ∷ [])) (suc n) xs))
+          (originsFrom (O ++ (n ∷ [])) (suc n) xs))
+          → ((o : ℕ) (v : X) → All2 (Holds R) (O ++ (o ∷ [])) (S ++ (v ∷ []))
+          → Into (runFrom (through M) (countIn x k) (S ++ (v ∷ [])) xs) (runFrom M (countIn x k) R (eraseFrom (O ++ (o ∷ [])) n xs)) (originsFrom (O ++ (o ∷ [])) n xs))
           → Into (elim s [ goes v ↦ runFrom (through M) (countIn x k) (S ++ (v ∷ [])) xs | stops d ↦ stopped (length S) d ]) (circuit w) (places w)
       go w c (stops d) q g g′ = tt
       go kept c (goes v) q g g′ =
-          subst (λ (t : Run X E). Into (runFrom (through M) (countIn x k) (S ++ (v ∷ [])) xs) t (originsFrom byWord (O ++ (n ∷ [])) (suc n) xs))
-          (sym (ap onward (subst (λ (s : Step X E). Refines s (step M k R (renumbered O n x))) q (c .0)) ∙ ap (λ (j : ℕ). runFrom M j (R ++ (v ∷ [])) (eraseFrom byWord (O ++ (n ∷ [])) (suc n) xs)) (c .1)))
+          subst (λ (t : Run X E). Into (runFrom (through M) (countIn x k) (S ++ (v ∷ [])) xs) t (originsFrom (O ++ (n ∷ [])) (suc n) xs))
+          (sym (ap onward (subst (λ (s : Step X E). Refines s (step M k R (renumbered O n x))) q (c .0))
+          ∙ ap (λ (j : ℕ). runFrom M j (R ++ (v ∷ [])) (eraseFrom (O ++ (n ∷ [])) (suc n) xs)) (c .1)))
           (g v (snoc2 (more O S R v r) (ap (getElem? (R ++ (v ∷ []))) e ∙ found-last R v)))
       go (madeFrom a) c (goes v) q g g′ =
-          subst (λ (j : ℕ). Into (runFrom (through M) (countIn x k) (S ++ (v ∷ [])) xs) (runFrom M j R (eraseFrom byWord (O ++ (f a ∷ [])) n xs)) (originsFrom byWord (O ++ (f a ∷ [])) n xs)) (c .1)
+          subst (λ (j : ℕ). Into (runFrom (through M) (countIn x k) (S ++ (v ∷ [])) xs) (runFrom M j R (eraseFrom (O ++ (f a ∷ [])) n xs)) (originsFrom (O ++ (f a ∷ [])) n xs))
+          (c .1)
           (g′ (f a) v (snoc2 r (struck-holds R n a v r (sym (c .0) ∙ q))))
 
   -- a schedule through which the machine runs to the end

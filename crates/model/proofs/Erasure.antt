@@ -16,7 +16,8 @@ use Rattle.model.specs.declared.Kind.{Kind}
 use Rattle.model.specs.declared.Kind.the-variants.{Ciphertext, Constant, Encoded, Nothing}
 use Rattle.model.specs.Scales.{headerInRange}
 use Rattle.model.specs.Files.{operands, kindOf, kindAt, isCiphertext, isUsable, everyUsable, isPair, lineFormed, linesFormed}
-use Rattle.model.specs.Services.{Fate, kept, madeFrom, fateOf, renamed, erase, origins, keptLines}
+use Rattle.model.specs.Services.{Fate, kept, madeFrom, fateOf, renamed, erase, keptLines}
+use Rattle.model.proofs.Statements.Erasing.{origins}
 use Rattle.model.proofs.Tests.{and-first, and-second, and-both, is-ciphertext, is-constant}
 use Rattle.model.proofs.Lists.{length-snoc, found-after, found-last, found-at, found-is, All, nil, cons, all-snoc, all-map, all-found, All2, nil2, cons2, snoc2, map2, length2, beside}
 use Rattle.model.proofs.Formed.{LineFacts, line-facts, line-passes, usable-below, well-header, well-lines}

@@ -15,13 +15,14 @@ use Rattle.ints.proofs.Linear.{le-parts, parts-, positive-sub}
 use Rattle.model.specs.declared.Header.{Header}
 use Rattle.model.specs.declared.Line.{Line}
 use Rattle.model.specs.declared.Line.the-variants.{In, Const, Neg, Rot, Add, Mul, Out, Enc, Rs, Ms, Us, Free}
-use Rattle.model.specs.Scales.{floor}
+use Rattle.model.specs.Scales.{headroom}
 use Rattle.model.specs.Files.{kindOf, isConstant}
-use Rattle.model.specs.Machine.{Step, goes, stops, finished, andThen, operand, step, run}
+use Rattle.model.specs.Machine.{Step, goes, stops, finished, andThen, heldBy, step, run}
 use Rattle.model.specs.Rules.{Bounds}
 use Rattle.model.specs.Machines as machines
-use Rattle.model.specs.Machines.{Vector, Handed, Reason, levelsDiffer, scalesDiffer, remainder, belowWaterline, aboveModulus, Holding, scaled, slotwise, rotated, timesTwoTo, overTwoTo, noRemainder, stopIf, holds, onScaled, scaledSum, scaledProduct, rescaled, plainMachine, scaleMachine}
-use Rattle.model.specs.Services.{erase, origins, keptLines}
+use Rattle.model.specs.Machines.{Vector, Handed, Reason, levelsDiffer, scalesDiffer, remainder, belowWaterline, aboveModulus, Holding, scaled, slotwise, rotated, timesTwoTo, overTwoTo, noRemainder, stopIf, ifBounded, onScaled, scaledSum, scaledProduct, rescaled, plainMachine, scaleMachine}
+use Rattle.model.specs.Services.{erase, keptLines}
+use Rattle.model.proofs.Statements.Erasing.{origins}
 use Rattle.model.specs.declared.Found.{Found}
 use Rattle.model.specs.declared.Found.the-variants as Founds
 use Rattle.model.specs.Refused.{bounded, onBare, onCiphertext, onPair, sum, product, checkMachine}
@@ -35,7 +36,7 @@ use Rattle.model.proofs.KeptLines.{kept-line}
 use Rattle.model.proofs.Vectors.{length-slotwise, length-rotated, length-map-of, times-neg, times-add, times-mul, times-times, times-rotated, no-remainder, over-times, times-apart}
 
 -- ---- the two tests of a scale
--- where one order is tested and holds, the opposite one does not
+-- where one order is tested and ifBounded, the opposite one does not
 not-below : (a b : ℤ) → T (leZ a b) → T (not (ltZ b a))
 not-below a b t = not-T (ltZ b a) (λ u. clashℤ {a = b} {b = a} (ltZ-yes u) (leZ-yes t))
 
@@ -44,10 +45,10 @@ stop-passes true e r t = absurd t
 stop-passes false e r t = refl
 
 -- where the check's tests pass, the scale machine's do
-holds-goes : (h : Header) (s l : ℤ) (v : Vector) → Low h s → High h s l → holds h s l v ≡ goes (scaled (positive s) (positive l) v)
+holds-goes : (h : Header) (s l : ℤ) (v : Vector) → Low h s → High h s l → ifBounded h s l v ≡ goes (scaled (positive s) (positive l) v)
 holds-goes h s l v low high =
     stop-passes (ltZ s (pos (h .waterline))) belowWaterline _ (not-below (pos (h .waterline)) s low)
-    ∙ stop-passes (ltZ (pos (h .factor) *ℤ l) (s +ℤ pos (floor h))) aboveModulus _ (not-below (s +ℤ pos (floor h)) (pos (h .factor) *ℤ l) high)
+    ∙ stop-passes (ltZ (pos (h .factor) *ℤ l) (s +ℤ pos (headroom h))) aboveModulus _ (not-below (s +ℤ pos (headroom h)) (pos (h .factor) *ℤ l) high)
 
 -- ---- what the check finds, what the scale machine holds and what the plain machine holds
 module _ (H : Handed) (h : Header) where
@@ -80,19 +81,22 @@ module _ (H : Handed) (h : Header) where
   same-test false n e r t w f = tt
 
   -- both bound a new scale and level alike
-  both-bounded : (found : ℕ → ℕ → Found) → ((s l : ℕ) (y : Holding) (w : Vector) → Times s l y w → Agree (found s l) y w) → (s l : ℤ) (v w : Vector) → Long w → v ≡ timesTwoTo (positive s) w
-      → InStep (bounded h found s l) (holds h s l v) w
+  both-bounded : (found : ℕ → ℕ → Found) → ((s l : ℕ) (y : Holding) (w : Vector) → Times s l y w → Agree (found s l) y w) → (s l : ℤ) (v w : Vector) → Long w
+      → v ≡ timesTwoTo (positive s) w
+      → InStep (bounded h found s l) (ifBounded h s l v) w
   both-bounded found agree s l v w long e =
-      bounded-cases h (λ r. InStep r (holds h s l v) w) found s l
+      bounded-cases h (λ r. InStep r (ifBounded h s l v) w) found s l
       (λ low high. subst (λ (t : Step Holding Reason). InStep (goes (found (positive s) (positive l))) t w) (sym (holds-goes h s l v low high))
-      (agree (positive s) (positive l) (scaled (positive s) (positive l) v) w (record { held = ap (scaled (positive s) (positive l)) e; long = long; bounds = tests-bound h s l low high })))
+      (agree (positive s) (positive l) (scaled (positive s) (positive l) v) w
+      (record { held = ap (scaled (positive s) (positive l)) e; long = long; bounds = tests-bound h s l low high })))
       tt tt
 
-  ciphertext-bounded : (s l : ℤ) (v w : Vector) → Long w → v ≡ timesTwoTo (positive s) w → InStep (bounded h Founds.Ciphertext s l) (holds h s l v) w
+  ciphertext-bounded : (s l : ℤ) (v w : Vector) → Long w → v ≡ timesTwoTo (positive s) w → InStep (bounded h Founds.Ciphertext s l) (ifBounded h s l v) w
   ciphertext-bounded = both-bounded Founds.Ciphertext (λ s l y w t. t)
 
   -- ---- operands
-  module _ (f : ℕ → ℕ → Step Found ℕ) (g : ℕ → ℕ → Vector → Step Holding Reason) (k : Vector → Vector) (each : (s l : ℕ) (w : Vector) → Long w → InStep (f s l) (g s l (timesTwoTo s w)) (k w)) where
+  module _ (f : ℕ → ℕ → Step Found ℕ) (g : ℕ → ℕ → Vector → Step Holding Reason) (k : Vector → Vector)
+      (each : (s l : ℕ) (w : Vector) → Long w → InStep (f s l) (g s l (timesTwoTo s w)) (k w)) where
     on-times : (s l : ℕ) (y : Holding) (w : Vector) → Times s l y w → InStep (f s l) (onScaled g y) (k w)
     on-times s l y w a = subst (λ (y : Holding). InStep (f s l) (onScaled g y) (k w)) (sym (a .held)) (each s l w (a .long))
 
@@ -103,12 +107,14 @@ module _ (H : Handed) (h : Header) where
 
   module _ (f : ℕ → ℕ → ℕ → ℕ → Step Found ℕ) (g : ℕ → ℕ → Vector → ℕ → ℕ → Vector → Step Holding Reason) (k : Vector → Vector → Vector)
       (each : (s l : ℕ) (w : Vector) → Long w → (s′ l′ : ℕ) (w′ : Vector) → Long w′ → InStep (f s l s′ l′) (g s l (timesTwoTo s w) s′ l′ (timesTwoTo s′ w′)) (k w w′)) where
-    on-two : (s l : ℕ) (y : Holding) (w : Vector) → Times s l y w → (s′ l′ : ℕ) (y′ : Holding) (w′ : Vector) → Times s′ l′ y′ w′ → InStep (f s l s′ l′) (onScaled (λ s l v. onScaled (g s l v) y′) y) (k w w′)
+    on-two : (s l : ℕ) (y : Holding) (w : Vector) → Times s l y w → (s′ l′ : ℕ) (y′ : Holding) (w′ : Vector) → Times s′ l′ y′ w′
+        → InStep (f s l s′ l′) (onScaled (λ s l v. onScaled (g s l v) y′) y) (k w w′)
     on-two s l y w a s′ l′ y′ w′ a′ =
         subst (λ (y : Holding). InStep (f s l s′ l′) (onScaled (λ s l v. onScaled (g s l v) y′) y) (k w w′)) (sym (a .held))
         (on-times (f s l) (g s l (timesTwoTo s w)) (k w) (each s l w (a .long)) s′ l′ y′ w′ a′)
 
-    on-pair : (x : Found) (y : Holding) (w : Vector) → Agree x y w → (x′ : Found) (y′ : Holding) (w′ : Vector) → Agree x′ y′ w′ → InStep (onPair f x x′) (onScaled (λ s l v. onScaled (g s l v) y′) y) (k w w′)
+    on-pair : (x : Found) (y : Holding) (w : Vector) → Agree x y w → (x′ : Found) (y′ : Holding) (w′ : Vector) → Agree x′ y′ w′
+        → InStep (onPair f x x′) (onScaled (λ s l v. onScaled (g s l v) y′) y) (k w w′)
     on-pair Founds.Bare y w a x′ y′ w′ a′ = tt
     on-pair (Founds.Encoded s l) y w a Founds.Bare y′ w′ a′ = tt
     on-pair (Founds.Encoded s l) y w a (Founds.Encoded s′ l′) y′ w′ a′ = tt
@@ -119,26 +125,30 @@ module _ (H : Handed) (h : Header) where
 
   -- a word on a ciphertext that makes the scale σ, the level τ and the vector φ v, where the plain machine makes ψ w
   on-one : (σ τ : ℕ → ℕ → ℤ) (φ ψ : Vector → Vector) → ((w : Vector) → Long w → Long (ψ w)) → ((s l : ℕ) (w : Vector) → φ (timesTwoTo s w) ≡ timesTwoTo (positive (σ s l)) (ψ w))
-      → (x : Found) (y : Holding) (w : Vector) → Agree x y w → InStep (onCiphertext (λ s l. bounded h Founds.Ciphertext (σ s l) (τ s l)) x) (onScaled (λ s l v. holds h (σ s l) (τ s l) (φ v)) y) (ψ w)
+      → (x : Found) (y : Holding) (w : Vector) → Agree x y w
+      → InStep (onCiphertext (λ s l. bounded h Founds.Ciphertext (σ s l) (τ s l)) x) (onScaled (λ s l v. ifBounded h (σ s l) (τ s l) (φ v)) y) (ψ w)
   on-one σ τ φ ψ long e =
-      on-ciphertext (λ s l. bounded h Founds.Ciphertext (σ s l) (τ s l)) (λ s l v. holds h (σ s l) (τ s l) (φ v)) ψ
+      on-ciphertext (λ s l. bounded h Founds.Ciphertext (σ s l) (τ s l)) (λ s l v. ifBounded h (σ s l) (τ s l) (φ v)) ψ
       (λ s l w n. ciphertext-bounded (σ s l) (τ s l) (φ (timesTwoTo s w)) (ψ w) (long w n) (e s l w))
 
   -- ---- the words
-  sum-kept : (s l : ℕ) (w : Vector) → Long w → (s′ l′ : ℕ) (w′ : Vector) → Long w′ → InStep (sum h s l s′ l′) (scaledSum h s l (timesTwoTo s w) s′ l′ (timesTwoTo s′ w′)) (slotwise _+ℤ_ w w′)
+  sum-kept : (s l : ℕ) (w : Vector) → Long w → (s′ l′ : ℕ) (w′ : Vector) → Long w′
+      → InStep (sum h s l s′ l′) (scaledSum h s l (timesTwoTo s w) s′ l′ (timesTwoTo s′ w′)) (slotwise _+ℤ_ w w′)
   sum-kept s l w n s′ l′ w′ n′ =
       same-test (eqb l l′) 7 levelsDiffer _ _ _ (λ p. same-test (eqb s s′) 8 scalesDiffer _ _ _ (λ q.
       ciphertext-bounded (pos s) (pos l) _ (slotwise _+ℤ_ w w′) (length-slotwise _+ℤ_ w w′ n n′)
       (ap (λ (r : ℕ). slotwise _+ℤ_ (timesTwoTo s w) (timesTwoTo r w′)) (sym (eqb→eq s s′ q)) ∙ times-add s w w′)))
 
-  product-kept : (s l : ℕ) (w : Vector) → Long w → (s′ l′ : ℕ) (w′ : Vector) → Long w′ → InStep (product h s l s′ l′) (scaledProduct h s l (timesTwoTo s w) s′ l′ (timesTwoTo s′ w′)) (slotwise _*ℤ_ w w′)
+  product-kept : (s l : ℕ) (w : Vector) → Long w → (s′ l′ : ℕ) (w′ : Vector) → Long w′
+      → InStep (product h s l s′ l′) (scaledProduct h s l (timesTwoTo s w) s′ l′ (timesTwoTo s′ w′)) (slotwise _*ℤ_ w w′)
   product-kept s l w n s′ l′ w′ n′ =
       same-test (eqb l l′) 7 levelsDiffer _ _ _ (λ p.
       ciphertext-bounded (pos (s + s′)) (pos l) _ (slotwise _*ℤ_ w w′) (length-slotwise _*ℤ_ w w′ n n′) (times-mul s s′ w w′))
 
-  encoded-kept : (s e : ℕ) (x : Found) (y : Holding) (w : Vector) → Agree x y w → InStep (onBare (bounded h Founds.Encoded (pos s) (pos e)) x) (machines.onBare (λ v. holds h (pos s) (pos e) (timesTwoTo s v)) y) w
+  encoded-kept : (s e : ℕ) (x : Found) (y : Holding) (w : Vector) → Agree x y w
+      → InStep (onBare (bounded h Founds.Encoded (pos s) (pos e)) x) (machines.onBareVector (λ v. ifBounded h (pos s) (pos e) (timesTwoTo s v)) y) w
   encoded-kept s e Founds.Bare y w a =
-      subst (λ (y : Holding). InStep (bounded h Founds.Encoded (pos s) (pos e)) (machines.onBare (λ v. holds h (pos s) (pos e) (timesTwoTo s v)) y) w) (sym (a .held))
+      subst (λ (y : Holding). InStep (bounded h Founds.Encoded (pos s) (pos e)) (machines.onBareVector (λ v. ifBounded h (pos s) (pos e) (timesTwoTo s v)) y) w) (sym (a .held))
       (both-bounded Founds.Encoded (λ s l y w t. t) (pos s) (pos e) (timesTwoTo s w) w (a .long) refl)
   encoded-kept s e (Founds.Encoded s′ l′) y w a = tt
   encoded-kept s e (Founds.Ciphertext s′ l′) y w a = tt
@@ -159,13 +169,16 @@ module _ (H : Handed) (h : Header) where
 
       -- nothing remains, and what is left is w times two to what is left of the scale
       divides : Low h (pos s -ℤ pos (h .factor * c)) → T (not (not (noRemainder (h .factor * c) (timesTwoTo s w))))
-      divides low = subst (λ (b : Bool). T (not (not b))) (sym (ap (noRemainder (h .factor * c)) (times-apart (h .factor * c) s w (fits low)) ∙ no-remainder (h .factor * c) (timesTwoTo (s - h .factor * c) w))) tt
+      divides low = subst (λ (b : Bool). T (not (not b)))
+          (sym (ap (noRemainder (h .factor * c)) (times-apart (h .factor * c) s w (fits low)) ∙ no-remainder (h .factor * c) (timesTwoTo (s - h .factor * c) w))) tt
 
       quotient : Low h (pos s -ℤ pos (h .factor * c)) → overTwoTo (h .factor * c) (timesTwoTo s w) ≡ timesTwoTo (positive (pos s -ℤ pos (h .factor * c))) w
-      quotient low = ap (overTwoTo (h .factor * c)) (times-apart (h .factor * c) s w (fits low)) ∙ over-times (h .factor * c) (timesTwoTo (s - h .factor * c) w) ∙ ap (λ (r : ℕ). timesTwoTo r w) (sym (positive-sub s (h .factor * c)))
+      quotient low = ap (overTwoTo (h .factor * c)) (times-apart (h .factor * c) s w (fits low)) ∙ over-times (h .factor * c) (timesTwoTo (s - h .factor * c) w)
+          ∙ ap (λ (r : ℕ). timesTwoTo r w) (sym (positive-sub s (h .factor * c)))
 
       goes-on : Low h (pos s -ℤ pos (h .factor * c)) → High h (pos s -ℤ pos (h .factor * c)) (pos l -ℤ pos c)
-          → rescaled h c s l (timesTwoTo s w) ≡ goes (scaled (positive (pos s -ℤ pos (h .factor * c))) (positive (pos l -ℤ pos c)) (timesTwoTo (positive (pos s -ℤ pos (h .factor * c))) w))
+          → rescaled h c s l (timesTwoTo s w) ≡ goes
+          (scaled (positive (pos s -ℤ pos (h .factor * c))) (positive (pos l -ℤ pos c)) (timesTwoTo (positive (pos s -ℤ pos (h .factor * c))) w))
       goes-on low high =
           stop-passes (not (noRemainder (h .factor * c) (timesTwoTo s w))) remainder _ (divides low)
           ∙ holds-goes h (pos s -ℤ pos (h .factor * c)) (pos l -ℤ pos c) (overTwoTo (h .factor * c) (timesTwoTo s w)) low high
@@ -177,7 +190,8 @@ module _ (H : Handed) (h : Header) where
         input = λ k. ciphertext-bounded (pos (h .waterline)) (pos (h .top)) (timesTwoTo (h .waterline) (H .inputs k)) (H .inputs k) (H .inputs-long k) refl;
         constant = λ k. record { held = refl; long = H .constants-long k };
         neg = on-one (λ s l. pos s) (λ s l. pos l) (map negℤ) (map negℤ) (λ w. length-map-of negℤ w) (λ s l w. times-neg s w);
-        rot = λ t. on-one (λ s l. pos s) (λ s l. pos l) (rotated (H .slots) t) (rotated (H .slots) t) (λ w n. length-rotated (H .slots) t w) (λ s l w. times-rotated s (H .slots) t w);
+        rot = λ t. on-one (λ s l. pos s) (λ s l. pos l) (rotated (H .slots) t) (rotated (H .slots) t) (λ w n. length-rotated (H .slots) t w)
+            (λ s l w. times-rotated s (H .slots) t w);
         add = on-pair (sum h) (scaledSum h) (slotwise _+ℤ_) sum-kept;
         mul = on-pair (product h) (scaledProduct h) (slotwise _*ℤ_) product-kept;
         out = on-one (λ s l. pos s) (λ s l. pos l) (λ v. v) (λ w. w) (λ w n. n) (λ s l w. refl);
@@ -228,11 +242,12 @@ module _ (h : Header) where
   ciphertext-scale = bounded-scale Founds.Ciphertext (λ s l. refl)
 
   module _ (held : List Found) where
-    one-scale : (a : ℕ) (σ τ : ℕ → ℕ → ℤ) → GivesScale (andThen (operand (checkMachine h) held a) (onCiphertext (λ s l. bounded h Founds.Ciphertext (σ s l) (τ s l))))
-    one-scale a σ τ = then-gives _ (operand (checkMachine h) held a) _ (on-ciphertext-scale _ (λ s l. ciphertext-scale (σ s l) (τ s l)))
+    one-scale : (a : ℕ) (σ τ : ℕ → ℕ → ℤ) → GivesScale (andThen (heldBy (checkMachine h) held a) (onCiphertext (λ s l. bounded h Founds.Ciphertext (σ s l) (τ s l))))
+    one-scale a σ τ = then-gives _ (heldBy (checkMachine h) held a) _ (on-ciphertext-scale _ (λ s l. ciphertext-scale (σ s l) (τ s l)))
 
-    pair-scale : (a b : ℕ) (f : ℕ → ℕ → ℕ → ℕ → Step Found ℕ) → ((s l s′ l′ : ℕ) → GivesScale (f s l s′ l′)) → GivesScale (andThen (operand (checkMachine h) held a) (λ x. andThen (operand (checkMachine h) held b) (onPair f x)))
-    pair-scale a b f g = then-gives _ (operand (checkMachine h) held a) _ (λ x. then-gives _ (operand (checkMachine h) held b) _ (on-pair-scale f g x))
+    pair-scale : (a b : ℕ) (f : ℕ → ℕ → ℕ → ℕ → Step Found ℕ) → ((s l s′ l′ : ℕ) → GivesScale (f s l s′ l′))
+        → GivesScale (andThen (heldBy (checkMachine h) held a) (λ x. andThen (heldBy (checkMachine h) held b) (onPair f x)))
+    pair-scale a b f g = then-gives _ (heldBy (checkMachine h) held a) _ (λ x. then-gives _ (heldBy (checkMachine h) held b) _ (on-pair-scale f g x))
 
   bare-by-word : (x : Line) (ins : ℕ) (held : List Found) → Gives (λ found. isBare found ≡ isConstant (kindOf x)) (step (checkMachine h) ins held x)
   bare-by-word In ins held = ciphertext-scale (pos (h .waterline)) (pos (h .top))
@@ -242,7 +257,7 @@ module _ (h : Header) where
   bare-by-word (Add a b) ins held = pair-scale held a b (sum h) (λ s l s′ l′. sum-cases h GivesScale s l s′ l′ (λ e e′. ciphertext-scale (pos s) (pos l)) (λ e. tt) (λ e. tt))
   bare-by-word (Mul a b) ins held = pair-scale held a b (product h) (λ s l s′ l′. product-cases h GivesScale s l s′ l′ (λ e. ciphertext-scale (pos (s + s′)) (pos l)) (λ e. tt))
   bare-by-word (Out a) ins held = one-scale held a (λ s l. pos s) (λ s l. pos l)
-  bare-by-word (Enc a s e) ins held = then-gives _ (operand (checkMachine h) held a) _ (on-bare-scale _ (bounded-scale Founds.Encoded (λ s l. refl) (pos s) (pos e)))
+  bare-by-word (Enc a s e) ins held = then-gives _ (heldBy (checkMachine h) held a) _ (on-bare-scale _ (bounded-scale Founds.Encoded (λ s l. refl) (pos s) (pos e)))
   bare-by-word (Rs a c) ins held = one-scale held a (λ s l. pos s -ℤ pos (h .factor * c)) (λ s l. pos l -ℤ pos c)
   bare-by-word (Ms a c) ins held = one-scale held a (λ s l. pos s) (λ s l. pos l -ℤ pos c)
   bare-by-word (Us a b) ins held = one-scale held a (λ s l. pos (s + b)) (λ s l. pos l)
@@ -304,7 +319,7 @@ exact H h s e =
     let circuit = erased (plainMachine H) s (runs .third-is) in
     record {
       held = runs .second;
-      numbers = circuit .held;
+      own = circuit .held;
       runs = runs .second-is;
       all-lines = held-long H h s (circuit .held) (runs .related) (bare-lines h s e) (circuit .from-circuit);
       plain-runs = circuit .runs;

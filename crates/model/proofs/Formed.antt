@@ -17,7 +17,7 @@ use Rattle.model.specs.declared.Kind.{Kind}
 use Rattle.model.specs.declared.Kind.the-variants.{Ciphertext, Constant}
 use Rattle.model.specs.Scales.{headerInRange}
 use Rattle.model.specs.Files.{isWord, inRange, operands, everyUsable, kindOf, kindAt, isUsable, isPair, kindsFit, lineFormed, linesFormed, wellFormed}
-use Rattle.model.specs.Machine.{Step, Machine, andThen, operand, step, run}
+use Rattle.model.specs.Machine.{Step, Machine, andThen, heldBy, step, run}
 use Rattle.model.proofs.Lists.{length-snoc, found-after, found-last}
 use Rattle.model.proofs.Tests.{and-first, and-second, and-both, is-ciphertext, is-constant}
 use Rattle.model.proofs.Outcomes.{snoc-cases, Outcome, RunOutcome, outcome-map, outcome-found, run-outcome}
@@ -25,25 +25,25 @@ use Rattle.model.proofs.Outcomes.{snoc-cases, Outcome, RunOutcome, outc
 -- ---- one line
 pub record LineFacts (g : Grammar) (h : Header) (before : List Line) (x : Line) : Type 0 where
   pub word : T (isWord g x)
-  pub range : T (inRange g h x)
+  pub range : T (inRange h x)
   pub usable : T (everyUsable before (operands x))
   pub kinds : T (kindsFit g before x)
 
 pub line-facts : (g : Grammar) (h : Header) (before : List Line) (x : Line) → T (lineFormed g h before x) → LineFacts g h before x
 line-facts g h before x t =
-    let two = and-second (isWord g x) (inRange g h x && (everyUsable before (operands x) && kindsFit g before x)) t in
-    let three = and-second (inRange g h x) (everyUsable before (operands x) && kindsFit g before x) two in
+    let two = and-second (isWord g x) (inRange h x && (everyUsable before (operands x) && kindsFit g before x)) t in
+    let three = and-second (inRange h x) (everyUsable before (operands x) && kindsFit g before x) two in
     record {
-      word = and-first (isWord g x) (inRange g h x && (everyUsable before (operands x) && kindsFit g before x)) t;
-      range = and-first (inRange g h x) (everyUsable before (operands x) && kindsFit g before x) two;
+      word = and-first (isWord g x) (inRange h x && (everyUsable before (operands x) && kindsFit g before x)) t;
+      range = and-first (inRange h x) (everyUsable before (operands x) && kindsFit g before x) two;
       usable = and-first (everyUsable before (operands x)) (kindsFit g before x) three;
       kinds = and-second (everyUsable before (operands x)) (kindsFit g before x) three;
     }
 
 pub line-passes : (g : Grammar) (h : Header) (before : List Line) (x : Line) → LineFacts g h before x → T (lineFormed g h before x)
 line-passes g h before x f =
-    and-both (isWord g x) (inRange g h x && (everyUsable before (operands x) && kindsFit g before x)) (f .word)
-    (and-both (inRange g h x) (everyUsable before (operands x) && kindsFit g before x) (f .range)
+    and-both (isWord g x) (inRange h x && (everyUsable before (operands x) && kindsFit g before x)) (f .word)
+    (and-both (inRange h x) (everyUsable before (operands x) && kindsFit g before x) (f .range)
     (and-both (everyUsable before (operands x)) (kindsFit g before x) (f .usable) (f .kinds)))
 
 -- a value that can be used is that of an earlier line
@@ -124,59 +124,70 @@ module _ {X : Type 0} (Fits : ℕ → Kind → X → Type 0) where
   abbrev pub Result : ℕ → Line → X → Type 0
   Result i x v = T (isUsable (kindOf x)) → Fits i (kindOf x) v
 
--- A: the allowed reasons to stop
+-- A: the allowed reasons to stop; P: what is wanted of the line's value
 module _ {X E : Type 0} (A : E → Type 0) (Fits : ℕ → Kind → X → Type 0) where
+  abbrev pub OnOperand : (X → Type 0) → ℕ → Kind → (X → Step X E) → Type 0
+  OnOperand P a k f = (v : X) → Fits a k v → Outcome A P (f v)
+
+  abbrev pub OnOperands : (X → Type 0) → Grammar → ℕ → ℕ → (X → X → Step X E) → Type 0
+  OnOperands P g a b f = (j k : Kind) (v w : X) → T (isPair g j k) → Fits a j v → Fits b k w → Outcome A P (f v w)
+
   abbrev pub OnOne : ℕ → Line → ℕ → Kind → (X → Step X E) → Type 0
-  OnOne i x a k f = (v : X) → Fits a k v → Outcome A (Result Fits i x) (f v)
+  OnOne i x a k f = OnOperand (Result Fits i x) a k f
 
   abbrev pub OnTwo : Grammar → ℕ → Line → ℕ → ℕ → (X → X → Step X E) → Type 0
-  OnTwo g i x a b f = (j k : Kind) (v w : X) → T (isPair g j k) → Fits a j v → Fits b k w → Outcome A (Result Fits i x) (f v w)
+  OnTwo g i x a b f = OnOperands (Result Fits i x) g a b f
 
 module _ {X E : Type 0} (M : Machine X E) (A : E → Type 0) (Fits : ℕ → Kind → X → Type 0) where
-  -- what the machine has to do at line x, the i-th: on operands that fit it comes to a value that fits, or stops for an allowed reason
+  -- what the machine has to do at line x: on operands that fit it comes to a value with P, or stops for an allowed reason
+  abbrev pub DutyFor : (X → Type 0) → Grammar → Line → Type 0
+  DutyFor P g In = (k : ℕ) → Outcome A P (M .input k)
+  DutyFor P g (Const k) = Outcome A P (M .constant k)
+  DutyFor P g (Neg a) = OnOperand A Fits P a Ciphertext (M .neg)
+  DutyFor P g (Rot a t) = OnOperand A Fits P a Ciphertext (λ v. M .rot v t)
+  DutyFor P g (Add a b) = OnOperands A Fits P g a b (M .add)
+  DutyFor P g (Mul a b) = OnOperands A Fits P g a b (M .mul)
+  DutyFor P g (Out a) = OnOperand A Fits P a Ciphertext (M .out)
+  DutyFor P g (Enc a s e) = OnOperand A Fits P a Constant (λ v. M .enc v s e)
+  DutyFor P g (Rs a c) = OnOperand A Fits P a Ciphertext (λ v. M .rs v c)
+  DutyFor P g (Ms a c) = OnOperand A Fits P a Ciphertext (λ v. M .ms v c)
+  DutyFor P g (Us a b) = OnOperand A Fits P a Ciphertext (λ v. M .us v b)
+  DutyFor P g Free = A (M .absent)
+
+  -- the i-th line: the value fits
   abbrev pub Duty : Grammar → ℕ → Line → Type 0
-  Duty g i In = (k : ℕ) → Outcome A (Result Fits i In) (M .input k)
-  Duty g i (Const k) = Outcome A (Result Fits i (Const k)) (M .constant k)
-  Duty g i (Neg a) = OnOne A Fits i (Neg a) a Ciphertext (M .neg)
-  Duty g i (Rot a t) = OnOne A Fits i (Rot a t) a Ciphertext (λ v. M .rot v t)
-  Duty g i (Add a b) = OnTwo A Fits g i (Add a b) a b (M .add)
-  Duty g i (Mul a b) = OnTwo A Fits g i (Mul a b) a b (M .mul)
-  Duty g i (Out a) = OnOne A Fits i (Out a) a Ciphertext (M .out)
-  Duty g i (Enc a s e) = OnOne A Fits i (Enc a s e) a Constant (λ v. M .enc v s e)
-  Duty g i (Rs a c) = OnOne A Fits i (Rs a c) a Ciphertext (λ v. M .rs v c)
-  Duty g i (Ms a c) = OnOne A Fits i (Ms a c) a Ciphertext (λ v. M .ms v c)
-  Duty g i (Us a b) = OnOne A Fits i (Us a b) a Ciphertext (λ v. M .us v b)
-  Duty g i Free = A (M .absent)
+  Duty g i x = DutyFor (Result Fits i x) g x
 
   module _ (g : Grammar) (h : Header) (before : List Line) (held : List X) (m : Matched Fits before held) where
     find : (P : X → Type 0) (a : ℕ) (k : Kind) (f : X → Step X E) → T (isUsable (kindAt before a)) → kindAt before a ≡ k → ((v : X) → Fits a k v → Outcome A P (f v))
-        → Outcome A P (andThen (operand M held a) f)
+        → Outcome A P (andThen (heldBy M held a) f)
     find P a k f u e n = let o = m .named a u in outcome-found A P M held a f (o .there) (n (o .value) (subst (λ (j : Kind). Fits a j (o .value)) e (o .fits)))
 
-    one : (x : Line) (a : ℕ) (k : Kind) (f : X → Step X E) → T (isUsable (kindAt before a) && true) → kindAt before a ≡ k → OnOne A Fits (length before) x a k f
-        → Outcome A (Result Fits (length before) x) (andThen (operand M held a) f)
-    one x a k f u e n = find (Result Fits (length before) x) a k f (and-first (isUsable (kindAt before a)) true u) e n
+    module _ (P : X → Type 0) where
+      one : (a : ℕ) (k : Kind) (f : X → Step X E) → T (isUsable (kindAt before a) && true) → kindAt before a ≡ k → OnOperand A Fits P a k f
+          → Outcome A P (andThen (heldBy M held a) f)
+      one a k f u e n = find P a k f (and-first (isUsable (kindAt before a)) true u) e n
 
-    two : (x : Line) (a b : ℕ) (f : X → X → Step X E) → T (isUsable (kindAt before a) && (isUsable (kindAt before b) && true)) → T (isPair g (kindAt before a) (kindAt before b))
-        → OnTwo A Fits g (length before) x a b f → Outcome A (Result Fits (length before) x) (andThen (operand M held a) (λ v. andThen (operand M held b) (f v)))
-    two x a b f u p n =
-        let ub = and-second (isUsable (kindAt before a)) (isUsable (kindAt before b) && true) u in
-        find (Result Fits (length before) x) a (kindAt before a) (λ v. andThen (operand M held b) (f v)) (and-first (isUsable (kindAt before a)) (isUsable (kindAt before b) && true) u) refl
-        (λ v q. one x b (kindAt before b) (f v) ub refl (λ w r. n (kindAt before a) (kindAt before b) v w p q r))
+      two : (a b : ℕ) (f : X → X → Step X E) → T (isUsable (kindAt before a) && (isUsable (kindAt before b) && true)) → T (isPair g (kindAt before a) (kindAt before b))
+          → OnOperands A Fits P g a b f → Outcome A P (andThen (heldBy M held a) (λ v. andThen (heldBy M held b) (f v)))
+      two a b f u p n =
+          let ub = and-second (isUsable (kindAt before a)) (isUsable (kindAt before b) && true) u in
+          find P a (kindAt before a) (λ v. andThen (heldBy M held b) (f v)) (and-first (isUsable (kindAt before a)) (isUsable (kindAt before b) && true) u) refl
+          (λ v q. one b (kindAt before b) (f v) ub refl (λ w r. n (kindAt before a) (kindAt before b) v w p q r))
 
-    formed-step : (ins : ℕ) (x : Line) → LineFacts g h before x → Duty g (length before) x → Outcome A (Result Fits (length before) x) (step M ins held x)
-    formed-step ins In l d = d ins
-    formed-step ins (Const k) l d = d
-    formed-step ins (Neg a) l d = one (Neg a) a Ciphertext (M .neg) (l .usable) (is-ciphertext (kindAt before a) (l .kinds)) d
-    formed-step ins (Rot a t) l d = one (Rot a t) a Ciphertext (λ v. M .rot v t) (l .usable) (is-ciphertext (kindAt before a) (l .kinds)) d
-    formed-step ins (Add a b) l d = two (Add a b) a b (M .add) (l .usable) (l .kinds) d
-    formed-step ins (Mul a b) l d = two (Mul a b) a b (M .mul) (l .usable) (l .kinds) d
-    formed-step ins (Out a) l d = one (Out a) a Ciphertext (M .out) (l .usable) (is-ciphertext (kindAt before a) (l .kinds)) d
-    formed-step ins (Enc a s e) l d = one (Enc a s e) a Constant (λ v. M .enc v s e) (l .usable) (is-constant (kindAt before a) (l .kinds)) d
-    formed-step ins (Rs a c) l d = one (Rs a c) a Ciphertext (λ v. M .rs v c) (l .usable) (is-ciphertext (kindAt before a) (l .kinds)) d
-    formed-step ins (Ms a c) l d = one (Ms a c) a Ciphertext (λ v. M .ms v c) (l .usable) (is-ciphertext (kindAt before a) (l .kinds)) d
-    formed-step ins (Us a b) l d = one (Us a b) a Ciphertext (λ v. M .us v b) (l .usable) (is-ciphertext (kindAt before a) (l .kinds)) d
-    formed-step ins Free l d = d
+      pub formed-step : (ins : ℕ) (x : Line) → LineFacts g h before x → DutyFor P g x → Outcome A P (step M ins held x)
+      formed-step ins In l d = d ins
+      formed-step ins (Const k) l d = d
+      formed-step ins (Neg a) l d = one a Ciphertext (M .neg) (l .usable) (is-ciphertext (kindAt before a) (l .kinds)) d
+      formed-step ins (Rot a t) l d = one a Ciphertext (λ v. M .rot v t) (l .usable) (is-ciphertext (kindAt before a) (l .kinds)) d
+      formed-step ins (Add a b) l d = two a b (M .add) (l .usable) (l .kinds) d
+      formed-step ins (Mul a b) l d = two a b (M .mul) (l .usable) (l .kinds) d
+      formed-step ins (Out a) l d = one a Ciphertext (M .out) (l .usable) (is-ciphertext (kindAt before a) (l .kinds)) d
+      formed-step ins (Enc a s e) l d = one a Constant (λ v. M .enc v s e) (l .usable) (is-constant (kindAt before a) (l .kinds)) d
+      formed-step ins (Rs a c) l d = one a Ciphertext (λ v. M .rs v c) (l .usable) (is-ciphertext (kindAt before a) (l .kinds)) d
+      formed-step ins (Ms a c) l d = one a Ciphertext (λ v. M .ms v c) (l .usable) (is-ciphertext (kindAt before a) (l .kinds)) d
+      formed-step ins (Us a b) l d = one a Ciphertext (λ v. M .us v b) (l .usable) (is-ciphertext (kindAt before a) (l .kinds)) d
+      formed-step ins Free l d = d
 
     one-more : (x : Line) (v : X) → Result Fits (length before) x v → Matched Fits (before ++ (x ∷ [])) (held ++ (v ∷ []))
     one-more x v r =
@@ -193,10 +204,11 @@ module _ {X E : Type 0} (M : Machine X E) (A : E → Type 0) (Fits : ℕ → Kin
 
   -- a machine that does its duty at each line
   pub formed-run : (g : Grammar) (h : Header) (lines : List Line) → T (linesFormed g h [] lines)
-      → ((before : List Line) (x : Line) (rest : List Line) → before ++ (x ∷ rest) ≡ lines → T (isWord g x) → T (inRange g h x) → Duty g (length before) x)
+      → ((before : List Line) (x : Line) (rest : List Line) → before ++ (x ∷ rest) ≡ lines → T (isWord g x) → T (inRange h x) → Duty g (length before) x)
       → RunOutcome A (Matched Fits lines) (run M lines)
   formed-run g h lines t duty = run-outcome M A lines (Matched Fits)
       (λ ins before held x rest e m.
       let l = formed-line g h lines t before x rest e in
-      outcome-map A (step M ins held x) (λ v r. one-more g h before held m x v r) (formed-step g h before held m ins x l (duty before x rest e (l .word) (l .range))))
+      outcome-map A (step M ins held x) (λ v r. one-more g h before held m x v r)
+      (formed-step g h before held m (Result Fits (length before) x) ins x l (duty before x rest e (l .word) (l .range))))
       (record { long = refl; named = λ a u. absurd u })

@@ -11,15 +11,16 @@ use Rattle.model.specs.declared.Header.{Header}
 use Rattle.model.specs.declared.Line.{Line}
 use Rattle.model.specs.Scales.{reserve, withTop}
 use Rattle.model.specs.Machine.{Step, goes, finished, run}
-use Rattle.model.specs.declared.Placement.{Placement}
+use Rattle.model.specs.declared.Choice.{Choice}
 use Rattle.model.specs.declared.Best.{Best}
 use Rattle.model.specs.declared.Best.the-variants as Bests
-use Rattle.model.specs.Plan.{smaller, atWaterline, placeInput, placeAt, placeTimesConstant, placeConstantTimes, placeProduct, productAt, placed, onCiphertext, onReserves, bestMachine}
+use Rattle.model.proofs.Statements.Products.{productAt}
+use Rattle.model.specs.Plan.{smaller, atWaterline, inputChoice, unchangedChoice, timesConstantChoice, constantTimesChoice, productChoice, unlessTooFew, onBest, onReserves, bestMachine}
 use Rattle.model.proofs.Lists.{nil3}
 use Rattle.model.proofs.Kept.{Follows, Kept, run-kept, Finished, finish, idle}
-use Rattle.model.proofs.Floor.{floor-top}
+use Rattle.model.proofs.Headroom.{headroom-top}
 use Rattle.model.proofs.Products.{smaller-mono, Optimal, optimal}
-use Rattle.model.proofs.Placed.{placed-elim, placed-goes}
+use Rattle.model.proofs.Chosen.{unlessTooFew-elim, unlessTooFew-goes}
 
 module _ (h : Header) (L : ℕ) (higher : h .top ≤ L) (F⁺ : zero < h .factor) (W⁺ : zero < h .waterline) where
   abbrev Ordered : ℤ → ℤ → Type 0
@@ -35,20 +36,22 @@ module _ (h : Header) (L : ℕ) (higher : h .top ≤ L) (F⁺ : zero < h .factor
   abbrev Keeps : Step Best ℕ → Step Best ℕ → Type 0
   Keeps s t = Follows {E = ℕ} {D = ℕ} {G = Unit {0}} More s t (goes tt)
 
-  both-placed : (p q : Placement) → p .reserve ≤ℤ q .reserve → Keeps (placed h p) (placed (withTop h L) q)
-  both-placed p q o = placed-elim h p (λ s. Keeps s (placed (withTop h L) q)) tt
-      (λ a. subst (Keeps (goes (Bests.Ciphertext p))) (sym (placed-goes (withTop h L) q (omega (signed, a, o, floor-top h L)))) (omega (signed, a), o))
+  both-chosen : (p q : Choice) → p .reserve ≤ℤ q .reserve → Keeps (unlessTooFew h p) (unlessTooFew (withTop h L) q)
+  both-chosen p q o = unlessTooFew-elim h p (λ s. Keeps s (unlessTooFew (withTop h L) q)) tt
+      (λ a. subst (Keeps (goes (Bests.Ciphertext p))) (sym (unlessTooFew-goes (withTop h L) q (omega (signed, a, o, headroom-top h L)))) (omega (signed, a), o))
 
-  on-ciphertext : (f g : Placement → Step Best ℕ) → ((p q : Placement) → Ordered (p .reserve) (q .reserve) → Keeps (f p) (g q))
-      → (x y : Best) (z : Unit {0}) → More x y z → Keeps (onCiphertext f x) (onCiphertext g y)
+  on-ciphertext : (f g : Choice → Step Best ℕ) → ((p q : Choice) → Ordered (p .reserve) (q .reserve) → Keeps (f p) (g q))
+      → (x y : Best) (z : Unit {0}) → More x y z → Keeps (onBest f x) (onBest g y)
   on-ciphertext f g k Bests.Constant Bests.Constant z r = tt
   on-ciphertext f g k Bests.Constant (Bests.Ciphertext q) z r = absurd r
   on-ciphertext f g k (Bests.Ciphertext p) Bests.Constant z r = absurd r
   on-ciphertext f g k (Bests.Ciphertext p) (Bests.Ciphertext q) z r = k p q r
 
   module _ (both both′ : ℤ → ℤ → Step Best ℕ) (left left′ right right′ : ℤ → Step Best ℕ)
-      (k : (r s r′ s′ : ℤ) → Ordered r s → Ordered r′ s′ → Keeps (both r r′) (both′ s s′)) (i : (r s : ℤ) → Ordered r s → Keeps (left r) (left′ s)) (j : (r s : ℤ) → Ordered r s → Keeps (right r) (right′ s)) where
-    on-pair : (x y : Best) (z : Unit {0}) → More x y z → (x′ y′ : Best) (z′ : Unit {0}) → More x′ y′ z′ → Keeps (onReserves both left right x x′) (onReserves both′ left′ right′ y y′)
+      (k : (r s r′ s′ : ℤ) → Ordered r s → Ordered r′ s′ → Keeps (both r r′) (both′ s s′)) (i : (r s : ℤ) → Ordered r s → Keeps (left r) (left′ s))
+      (j : (r s : ℤ) → Ordered r s → Keeps (right r) (right′ s)) where
+    on-pair : (x y : Best) (z : Unit {0}) → More x y z → (x′ y′ : Best) (z′ : Unit {0}) → More x′ y′ z′
+        → Keeps (onReserves both left right x x′) (onReserves both′ left′ right′ y y′)
     on-pair Bests.Constant Bests.Constant z r Bests.Constant Bests.Constant z′ r′ = tt
     on-pair Bests.Constant Bests.Constant z r Bests.Constant (Bests.Ciphertext q) z′ r′ = absurd r′
     on-pair Bests.Constant Bests.Constant z r (Bests.Ciphertext p) Bests.Constant z′ r′ = absurd r′
@@ -75,20 +78,23 @@ module _ (h : Header) (L : ℕ) (higher : h .top ≤ L) (F⁺ : zero < h .factor
       w : ℤ
       w = atWaterline h l
 
-  best-rises : (a b c d : ℕ) → pos a ≤ℤ pos b → pos c ≤ℤ pos d → (placeProduct h (pos a) (pos c) .reserve) ≤ℤ (placeProduct h (pos b) (pos d) .reserve)
-  best-rises a b c d o o′ = omega (signed, P .attained, product-rises (pos a) (pos b) (pos c) (pos d) (placeProduct h (pos a) (pos c) .level) o o′, Q .greatest (placeProduct h (pos a) (pos c) .level))
+  best-rises : (a b c d : ℕ) → pos a ≤ℤ pos b → pos c ≤ℤ pos d → (productChoice h (pos a) (pos c) .reserve) ≤ℤ (productChoice h (pos b) (pos d) .reserve)
+  best-rises a b c d o o′ =
+      omega (signed, P .attained, product-rises (pos a) (pos b) (pos c) (pos d) (productChoice h (pos a) (pos c) .level) o o′, Q .greatest (productChoice h (pos a) (pos c) .level))
     where
-      P : Optimal h F⁺ (pos a) (pos c) (placeProduct h (pos a) (pos c))
+      P : Optimal h F⁺ (pos a) (pos c) (productChoice h (pos a) (pos c))
       P = optimal h F⁺ W⁺ a c
 
-      Q : Optimal h F⁺ (pos b) (pos d) (placeProduct h (pos b) (pos d))
+      Q : Optimal h F⁺ (pos b) (pos d) (productChoice h (pos b) (pos d))
       Q = optimal h F⁺ W⁺ b d
 
-  mul-rises : (r s r′ s′ : ℤ) → Ordered r s → Ordered r′ s′ → (placeProduct h r r′ .reserve) ≤ℤ (placeProduct h s s′ .reserve)
+  mul-rises : (r s r′ s′ : ℤ) → Ordered r s → Ordered r′ s′ → (productChoice h r r′ .reserve) ≤ℤ (productChoice h s s′ .reserve)
   mul-rises r s r′ s′ o o′ =
-      subst₂ (λ (x y : ℤ). (placeProduct h x y .reserve) ≤ℤ (placeProduct h s s′ .reserve)) (sym (whole r (o .0))) (sym (whole r′ (o′ .0)))
-      (subst₂ (λ (x y : ℤ). (placeProduct h (pos (positive r)) (pos (positive r′)) .reserve) ≤ℤ (placeProduct h x y .reserve)) (sym (whole s (omega (signed, o)))) (sym (whole s′ (omega (signed, o′))))
-      (best-rises (positive r) (positive s) (positive r′) (positive s′) (omega (signed, o, whole r (o .0), whole s (omega (signed, o)))) (omega (signed, o′, whole r′ (o′ .0), whole s′ (omega (signed, o′))))))
+      subst₂ (λ (x y : ℤ). (productChoice h x y .reserve) ≤ℤ (productChoice h s s′ .reserve)) (sym (whole r (o .0))) (sym (whole r′ (o′ .0)))
+      (subst₂ (λ (x y : ℤ). (productChoice h (pos (positive r)) (pos (positive r′)) .reserve) ≤ℤ (productChoice h x y .reserve)) (sym (whole s (omega (signed, o))))
+      (sym (whole s′ (omega (signed, o′))))
+      (best-rises (positive r) (positive s) (positive r′) (positive s′) (omega (signed, o, whole r (o .0), whole s (omega (signed, o))))
+      (omega (signed, o′, whole r′ (o′ .0), whole s′ (omega (signed, o′))))))
     where
       whole : (z : ℤ) → pos 0 ≤ℤ z → z ≡ pos (positive z)
       whole z = is-positive z
@@ -96,13 +102,16 @@ module _ (h : Header) (L : ℕ) (higher : h .top ≤ L) (F⁺ : zero < h .factor
   higher-kept : Kept (bestMachine h) (bestMachine (withTop h L)) idle More
   higher-kept =
       record {
-        input = λ k. both-placed (placeInput h) (placeInput (withTop h L)) (omega (signed, mul-le-mul-left (h .factor) higher, parts- (pos (h .factor * h .top)) (pos (h .waterline)), parts- (pos (h .factor * L)) (pos (h .waterline))));
+        input = λ k. both-chosen (inputChoice h) (inputChoice (withTop h L))
+            (omega (signed, mul-le-mul-left (h .factor) higher, parts- (pos (h .factor * h .top)) (pos (h .waterline)), parts- (pos (h .factor * L)) (pos (h .waterline))));
         constant = λ k. tt;
         neg = on-ciphertext _ _ again;
         rot = λ t. on-ciphertext _ _ again;
-        add = on-pair _ _ _ _ _ _ (λ r s r′ s′ o o′. both-placed (placeAt h (smaller r r′)) (placeAt (withTop h L) (smaller s s′)) (smaller-mono r r′ s s′ (o .1) (o′ .1))) one one;
-        mul = on-pair _ _ _ _ _ _ (λ r s r′ s′ o o′. both-placed (placeProduct h r r′) (placeProduct (withTop h L) s s′) (mul-rises r s r′ s′ o o′))
-            (λ r s o. both-placed (placeTimesConstant h r) (placeTimesConstant (withTop h L) s) (less r s o)) (λ r s o. both-placed (placeConstantTimes h r) (placeConstantTimes (withTop h L) s) (less r s o));
+        add = on-pair _ _ _ _ _ _
+            (λ r s r′ s′ o o′. both-chosen (unchangedChoice h (smaller r r′)) (unchangedChoice (withTop h L) (smaller s s′)) (smaller-mono r r′ s s′ (o .1) (o′ .1))) one one;
+        mul = on-pair _ _ _ _ _ _ (λ r s r′ s′ o o′. both-chosen (productChoice h r r′) (productChoice (withTop h L) s s′) (mul-rises r s r′ s′ o o′))
+            (λ r s o. both-chosen (timesConstantChoice h r) (timesConstantChoice (withTop h L) s) (less r s o))
+            (λ r s o. both-chosen (constantTimesChoice h r) (constantTimesChoice (withTop h L) s) (less r s o));
         out = on-ciphertext _ _ (λ p q o. o);
         enc = λ s e x y z r. tt;
         rs = λ c x y z r. tt;
@@ -110,11 +119,12 @@ module _ (h : Header) (L : ℕ) (higher : h .top ≤ L) (F⁺ : zero < h .factor
         us = λ b x y z r. tt;
       }
     where
-      again : (p q : Placement) → Ordered (p .reserve) (q .reserve) → Keeps (placed h (placeAt h (p .reserve))) (placed (withTop h L) (placeAt (withTop h L) (q .reserve)))
-      again p q o = both-placed (placeAt h (p .reserve)) (placeAt (withTop h L) (q .reserve)) (o .1)
+      again : (p q : Choice) → Ordered (p .reserve) (q .reserve)
+          → Keeps (unlessTooFew h (unchangedChoice h (p .reserve))) (unlessTooFew (withTop h L) (unchangedChoice (withTop h L) (q .reserve)))
+      again p q o = both-chosen (unchangedChoice h (p .reserve)) (unchangedChoice (withTop h L) (q .reserve)) (o .1)
 
-      one : (r s : ℤ) → Ordered r s → Keeps (placed h (placeAt h r)) (placed (withTop h L) (placeAt (withTop h L) s))
-      one r s o = both-placed (placeAt h r) (placeAt (withTop h L) s) (o .1)
+      one : (r s : ℤ) → Ordered r s → Keeps (unlessTooFew h (unchangedChoice h r)) (unlessTooFew (withTop h L) (unchangedChoice (withTop h L) s))
+      one r s o = both-chosen (unchangedChoice h r) (unchangedChoice (withTop h L) s) (o .1)
 
       less : (r s : ℤ) → Ordered r s → (r -ℤ pos (h .waterline)) ≤ℤ (s -ℤ pos (h .waterline))
       less r s o = omega (signed, o, parts- r (pos (h .waterline)), parts- s (pos (h .waterline)))
@@ -123,4 +133,5 @@ module _ (h : Header) (L : ℕ) (higher : h .top ≤ L) (F⁺ : zero < h .factor
   fits-higher c {best} e = (K .second, K .second-is)
     where
       K : Finished More best (run (bestMachine (withTop h L)) c) (run idle c)
-      K = finish More (run (bestMachine h) c) (run (bestMachine (withTop h L)) c) (run idle c) e (run-kept (bestMachine h) (bestMachine (withTop h L)) idle More higher-kept c 0 nil3)
+      K = finish More (run (bestMachine h) c) (run (bestMachine (withTop h L)) c) (run idle c) e
+          (run-kept (bestMachine h) (bestMachine (withTop h L)) idle More higher-kept c 0 nil3)

@@ -7,7 +7,7 @@ use lib.ListN.{length, getElem?}
 use lib.IntN.{ℤ}
 use Rattle.model.specs.declared.Line.{Line}
 use Rattle.model.specs.declared.Line.the-variants.{In, Const, Neg, Rot, Add, Mul, Out, Enc, Rs, Ms, Us, Free}
-use Rattle.model.specs.Machine.{Step, goes, stops, Run, finished, stopped, Machine, andThen, orAbsent, operand, step, countIn, runFrom}
+use Rattle.model.specs.Machine.{Step, goes, stops, Run, finished, stopped, Machine, andThen, orAbsent, heldBy, step, countIn, runFrom}
 use Rattle.model.proofs.Lists.{All3, nil3, cons3, snoc3}
 
 module _ {X Y Z E D G : Type 0} where
@@ -54,8 +54,8 @@ module _ {X Y Z E D G : Type 0} (A : Machine X E) (B : Machine Y D) (C : Machine
   module _ (K : Kept) where
     module _ {f : List X} {g : List Y} {h : List Z} (r : All3 R f g h) where
       one : (a : ℕ) (p : X → Step X E) (q : Y → Step Y D) (s : Z → Step Z G) → ((x : X) (y : Y) (z : Z) → R x y z → Follows R (p x) (q y) (s z))
-          → Follows R (andThen (operand A f a) p) (andThen (operand B g a) q) (andThen (operand C h a) s)
-      one a p q s n = follow-then R R (operand A f a) (operand B g a) (operand C h a) p q s (look-follows (A .absent) (B .absent) (C .absent) r a) n
+          → Follows R (andThen (heldBy A f a) p) (andThen (heldBy B g a) q) (andThen (heldBy C h a) s)
+      one a p q s n = follow-then R R (heldBy A f a) (heldBy B g a) (heldBy C h a) p q s (look-follows (A .absent) (B .absent) (C .absent) r a) n
 
       step-kept : (l : Line) (k : ℕ) → Follows R (step A k f l) (step B k g l) (step C k h l)
       step-kept In k = K .input k
@@ -76,7 +76,8 @@ module _ {X Y Z E D G : Type 0} (A : Machine X E) (B : Machine Y D) (C : Machine
     run-kept (x ∷ xs) k {f} {g} {h} r = go (step A k f x) (step B k g x) (step C k h x) (step-kept r x k) (λ v w y q. run-kept xs (countIn x k) (snoc3 r q))
       where
         go : (s : Step X E) (t : Step Y D) (u : Step Z G) → Follows R s t u
-            → ((v : X) (w : Y) (y : Z) → R v w y → RunFollows R (runFrom A (countIn x k) (f ++ (v ∷ [])) xs) (runFrom B (countIn x k) (g ++ (w ∷ [])) xs) (runFrom C (countIn x k) (h ++ (y ∷ [])) xs))
+            → ((v : X) (w : Y) (y : Z) → R v w y
+            → RunFollows R (runFrom A (countIn x k) (f ++ (v ∷ [])) xs) (runFrom B (countIn x k) (g ++ (w ∷ [])) xs) (runFrom C (countIn x k) (h ++ (y ∷ [])) xs))
             → RunFollows {E = E} {D = D} {G = G} R
             (elim s [ goes v ↦ runFrom A (countIn x k) (f ++ (v ∷ [])) xs | stops e ↦ stopped (length f) e ])
             (elim t [ goes v ↦ runFrom B (countIn x k) (g ++ (v ∷ [])) xs | stops e ↦ stopped (length g) e ])
@@ -103,7 +104,7 @@ module _ {X Y Z D G : Type 0} (R : X → Y → Z → Type 0) where
       go (finished ys) (stopped i d) q = absurd q
       go (finished ys) (finished zs) q = record { second = ys; third = zs; second-is = refl; third-is = refl; related = q }
 
--- the machine that holds nothing and never stops but where an operand is missing
+-- the machine that holds nothing and never stops but where an heldBy is missing
 abbrev pub idle : Machine (Unit {0}) (Unit {0})
 idle =
     record {

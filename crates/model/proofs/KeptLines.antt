@@ -10,11 +10,9 @@ use lib.ListN.{length, getD, getElem?}
 use Rattle.model.specs.declared.Line.{Line}
 use Rattle.model.specs.declared.Line.the-variants.{In, Const, Neg, Rot, Add, Mul, Out, Enc, Rs, Ms, Us, Free}
 use Rattle.model.specs.Files.{kindOf}
-use Rattle.model.specs.Services.{Fate, kept, madeFrom, fateOf, renamed, renumbered, eraseFrom, originsFrom, keptFrom, erase, origins, keptLines}
+use Rattle.model.specs.Services.{Fate, kept, madeFrom, fateOf, renamed, renumbered, eraseFrom, keptFrom, erase, keptLines}
+use Rattle.model.proofs.Statements.Erasing.{originsFrom, origins}
 use Rattle.model.proofs.Lists.{length-snoc, found-after, found-last, found-at}
-
-abbrev byWord : ℕ → Line → Fate
-byWord i x = fateOf x
 
 -- other operands, the same kind
 pub renamed-kind : (f : ℕ → ℕ) (x : Line) → kindOf (renamed f x) ≡ kindOf x
@@ -32,12 +30,13 @@ renamed-kind f (Us a b) = refl
 renamed-kind f Free = refl
 
 -- later lines leave the origins of earlier ones
-origins-after : (xs : List Line) (before : List ℕ) (count i : ℕ) {o : ℕ} → getElem? before i ≡ some o → getElem? (originsFrom byWord before count xs) i ≡ some o
+origins-after : (xs : List Line) (before : List ℕ) (count i : ℕ) {o : ℕ} → getElem? before i ≡ some o → getElem? (originsFrom before count xs) i ≡ some o
 origins-after [] before count i e = e
 origins-after (x ∷ xs) before count i {o} e = go (fateOf x) (λ c n. origins-after xs (before ++ (c ∷ [])) n i (found-after before (c ∷ []) i e))
   where
-    go : (w : Fate) → ((c n : ℕ) → getElem? (originsFrom byWord (before ++ (c ∷ [])) n xs) i ≡ some o)
-        → getElem? (elim w as (λ y. List ℕ) [ kept ↦ originsFrom byWord (before ++ (count ∷ [])) (suc count) xs | madeFrom a ↦ originsFrom byWord (before ++ (getD before a count ∷ [])) count xs ]) i ≡ some o
+    go : (w : Fate) → ((c n : ℕ) → getElem? (originsFrom (before ++ (c ∷ [])) n xs) i ≡ some o)
+        → getElem? (elim w as
+        (λ y. List ℕ) [ kept ↦ originsFrom (before ++ (count ∷ [])) (suc count) xs | madeFrom a ↦ originsFrom (before ++ (getD before a count ∷ [])) count xs ]) i ≡ some o
     go kept r = r count (suc count)
     go (madeFrom a) r = r (getD before a count) count
 
@@ -49,8 +48,8 @@ record KeptHere (xs erased : List Line) (from : List ℕ) (first count i j : ℕ
   origin : getElem? from i ≡ some (count + j)
   same-kind : kindOf (getD erased j Free) ≡ kindOf (getD xs offset Free)
 
-kept-here : (xs : List Line) (before : List ℕ) (first count j : ℕ) → first ≡ length before → j < length (eraseFrom byWord before count xs)
-    → KeptHere xs (eraseFrom byWord before count xs) (originsFrom byWord before count xs) first count (getD (keptFrom byWord first xs) j 0) j
+kept-here : (xs : List Line) (before : List ℕ) (first count j : ℕ) → first ≡ length before → j < length (eraseFrom before count xs)
+    → KeptHere xs (eraseFrom before count xs) (originsFrom before count xs) first count (getD (keptFrom first xs) j 0) j
 kept-here [] before first count j e h = absurd (not-suc-le-zero h)
 kept-here (x ∷ xs) before first count j e h = go (fateOf x) j h (λ c n j′ h′. kept-here xs (before ++ (c ∷ [])) (suc first) n j′ (ap suc e ∙ sym (length-snoc before c)) h′)
   where
@@ -59,19 +58,19 @@ kept-here (x ∷ xs) before first count j e h = go (fateOf x) j h (λ c n j′ h
 
     -- what the line's fate makes of the three lists
     erased : Fate → List Line
-    erased w = elim w [ kept ↦ renumbered before count x ∷ eraseFrom byWord (before ++ (count ∷ [])) (suc count) xs | madeFrom a ↦ eraseFrom byWord (before ++ (f a ∷ [])) count xs ]
+    erased w = elim w [ kept ↦ renumbered before count x ∷ eraseFrom (before ++ (count ∷ [])) (suc count) xs | madeFrom a ↦ eraseFrom (before ++ (f a ∷ [])) count xs ]
 
     from : Fate → List ℕ
-    from w = elim w [ kept ↦ originsFrom byWord (before ++ (count ∷ [])) (suc count) xs | madeFrom a ↦ originsFrom byWord (before ++ (f a ∷ [])) count xs ]
+    from w = elim w [ kept ↦ originsFrom (before ++ (count ∷ [])) (suc count) xs | madeFrom a ↦ originsFrom (before ++ (f a ∷ [])) count xs ]
 
     places : Fate → List ℕ
-    places w = elim w [ kept ↦ first ∷ keptFrom byWord (suc first) xs | madeFrom a ↦ keptFrom byWord (suc first) xs ]
+    places w = elim w [ kept ↦ first ∷ keptFrom (suc first) xs | madeFrom a ↦ keptFrom (suc first) xs ]
 
     Later : ℕ → ℕ → ℕ → Type 0
     Later c n j =
-        KeptHere xs (eraseFrom byWord (before ++ (c ∷ [])) n xs) (originsFrom byWord (before ++ (c ∷ [])) n xs) (suc first) n (getD (keptFrom byWord (suc first) xs) j 0) j
+        KeptHere xs (eraseFrom (before ++ (c ∷ [])) n xs) (originsFrom (before ++ (c ∷ [])) n xs) (suc first) n (getD (keptFrom (suc first) xs) j 0) j
 
-    go : (w : Fate) (j : ℕ) → j < length (erased w) → ((c n j : ℕ) → j < length (eraseFrom byWord (before ++ (c ∷ [])) n xs) → Later c n j)
+    go : (w : Fate) (j : ℕ) → j < length (erased w) → ((c n j : ℕ) → j < length (eraseFrom (before ++ (c ∷ [])) n xs) → Later c n j)
         → KeptHere (x ∷ xs) (erased w) (from w) first count (getD (places w) j 0) j
     go kept zero h r =
         record {
@@ -99,13 +98,14 @@ kept-here (x ∷ xs) before first count j e h = go (fateOf x) j h (λ c n j′ h
         }
 
 -- as many lines are kept as the circuit has
-count-here : (xs : List Line) (before : List ℕ) (first count : ℕ) → length (keptFrom byWord first xs) ≡ length (eraseFrom byWord before count xs)
+count-here : (xs : List Line) (before : List ℕ) (first count : ℕ) → length (keptFrom first xs) ≡ length (eraseFrom before count xs)
 count-here [] before first count = refl
 count-here (x ∷ xs) before first count = go (fateOf x) (λ c n. count-here xs (before ++ (c ∷ [])) (suc first) n)
   where
-    go : (w : Fate) → ((c n : ℕ) → length (keptFrom byWord (suc first) xs) ≡ length (eraseFrom byWord (before ++ (c ∷ [])) n xs))
-        → length {A = ℕ} (elim w [ kept ↦ first ∷ keptFrom byWord (suc first) xs | madeFrom a ↦ keptFrom byWord (suc first) xs ])
-        ≡ length {A = Line} (elim w [ kept ↦ renumbered before count x ∷ eraseFrom byWord (before ++ (count ∷ [])) (suc count) xs | madeFrom a ↦ eraseFrom byWord (before ++ (getD before a count ∷ [])) count xs ])
+    go : (w : Fate) → ((c n : ℕ) → length (keptFrom (suc first) xs) ≡ length (eraseFrom (before ++ (c ∷ [])) n xs))
+        → length {A = ℕ} (elim w [ kept ↦ first ∷ keptFrom (suc first) xs | madeFrom a ↦ keptFrom (suc first) xs ])
+        ≡ length {A = Line} (elim w
+        [ kept ↦ renumbered before count x ∷ eraseFrom (before ++ (count ∷ [])) (suc count) xs | madeFrom a ↦ eraseFrom (before ++ (getD before a count ∷ [])) count xs ])
     go kept r = ap suc (r count (suc count))
     go (madeFrom a) r = r (getD before a count) count
 

@@ -9,7 +9,8 @@ use Rattle.model.specs.declared.Line.{Line}
 use Rattle.model.specs.declared.Answer.{Answer}
 use Rattle.model.specs.declared.Answer.the-variants.{Done, Level, Refused}
 use Rattle.model.specs.Scales.{withTop}
-use Rattle.model.specs.Files.{File, placeOf}
+use Rattle.rows.specs.Rows.{placeOf}
+use Rattle.model.specs.Files.{File}
 use Rattle.model.specs.Machine.{Run, finished, stopped, run}
 use Rattle.model.specs.declared.Best.{Best}
 use Rattle.model.specs.Plan.{bestMachine}
@@ -51,7 +52,9 @@ module _ (h : Header) (lines : List Line) where
           → ((n p : ℕ) → ((j : ℕ) → 1 ≤ j → j < suc l → StopsAt j) → (left ≡ 0 → Says (Refused n p)) → Says (tryLevels h lines left (suc l) (Refused n p)))
           → Says (elim r [ finished best ↦ Level l | stopped i n ↦ tryLevels h lines left (suc l) (Refused n (placeOf i)) ])
       go (finished best) q f = record { low = o; high = omega arith; fits = record { best = best; runs = q }; lower = s }
-      go (stopped i n) q f = f n (placeOf i) (λ j a b. further j a b (ℕ-discrete j l)) (λ w. record { line = i; runs = ap (λ (t : ℕ). run (bestMachine (withTop h t)) lines) (sixty w) ∙ q; place-is = refl })
+      go (stopped i n) q f =
+          f n (placeOf i) (λ j a b. further j a b (ℕ-discrete j l))
+          (λ w. record { line = i; runs = ap (λ (t : ℕ). run (bestMachine (withTop h t)) lines) (sixty w) ∙ q; place-is = refl })
         where
           sixty : left ≡ 0 → 60 ≡ l
           sixty w = omega arith

@@ -105,7 +105,8 @@ module _ {X Y Z : Type 0} where
     nil3 : All3 R [] [] []
     cons3 : {x : X} {y : Y} {z : Z} {xs : List X} {ys : List Y} {zs : List Z} → R x y z → All3 R xs ys zs → All3 R (x ∷ xs) (y ∷ ys) (z ∷ zs)
 
-  pub snoc3 : {R : X → Y → Z → Type 0} {f : List X} {g : List Y} {h : List Z} {x : X} {y : Y} {z : Z} → All3 R f g h → R x y z → All3 R (f ++ (x ∷ [])) (g ++ (y ∷ [])) (h ++ (z ∷ []))
+  pub snoc3 : {R : X → Y → Z → Type 0} {f : List X} {g : List Y} {h : List Z} {x : X} {y : Y} {z : Z} → All3 R f g h → R x y z
+      → All3 R (f ++ (x ∷ [])) (g ++ (y ∷ [])) (h ++ (z ∷ []))
   snoc3 nil3 p = cons3 p nil3
   snoc3 (cons3 q t) p = cons3 q (snoc3 t p)
 
@@ -128,5 +129,7 @@ module _ {X Y Z : Type 0} where
 
   pub between : {R : X → Y → Z → Type 0} {f : List X} {g : List Y} {h : List Z} → All3 R f g h → (i : ℕ) {y : Y} → getElem? g i ≡ some y → Between R f y h i
   between nil3 i e = absurd (Option·none-ne-some _ e)
-  between {R} (cons3 {x = x} {y = w} {z = z} q t) zero e = record { left = x; right = z; left-there = refl; right-there = refl; related = mathlib.Core.Path.subst (λ (v : Y). R x v z) (Option·some-injective w _ e) q }
-  between (cons3 q t) (suc i) e = let b = between t i e in record { left = b .left; right = b .right; left-there = b .left-there; right-there = b .right-there; related = b .related }
+  between {R} (cons3 {x = x} {y = w} {z = z} q t) zero e =
+      record { left = x; right = z; left-there = refl; right-there = refl; related = mathlib.Core.Path.subst (λ (v : Y). R x v z) (Option·some-injective w _ e) q }
+  between (cons3 q t) (suc i) e = let b = between t i e in
+      record { left = b .left; right = b .right; left-there = b .left-there; right-there = b .right-there; related = b .related }

@@ -8,11 +8,11 @@ use lib.Signed.{_≤ℤ_, leZ}
 use Rattle.ints.specs.Parts.{positive, negative}
 use Rattle.ints.proofs.Linear.{signed, parts+, parts-, is-positive, positive-sub, ≤-read, ≡-read}
 use Rattle.model.specs.declared.Header.{Header}
-use Rattle.model.specs.Scales.{floor}
-use Rattle.model.specs.declared.Placement.{Placement}
+use Rattle.model.specs.Scales.{headroom}
+use Rattle.model.specs.declared.Choice.{Choice}
 use Rattle.model.specs.declared.Best.{Best}
 use Rattle.model.specs.declared.Best.the-variants as Bests
-use Rattle.model.specs.Plan.{lowestLevel, smaller, atWaterline, placeAt, placeTimesConstant, placeConstantTimes, placeProduct}
+use Rattle.model.specs.Plan.{lowestLevel, smaller, atWaterline, unchangedChoice, timesConstantChoice, constantTimesChoice, productChoice}
 use Rattle.model.proofs.Tests.{HeaderFacts}
 use Rattle.model.proofs.Levels.{fits, least}
 use Rattle.model.proofs.Tests.{by-test}
@@ -27,7 +27,7 @@ module _ (h : Header) (H : HeaderFacts h) where
   W⁺ = H .waterline .least
 
   -- the choice p for a line on operands b and b′
-  pub record Meets (p : Placement) (b b′ : Best) : Type 0 where
+  pub record Meets (p : Choice) (b b′ : Best) : Type 0 where
     pub first : Valid h H (p .first) (p .level)
     pub second : Valid h H (p .second) (p .level)
     pub own : Valid h H (p .reserve) (p .level)
@@ -47,7 +47,7 @@ module _ (h : Header) (H : HeaderFacts h) where
         top = omega (arith, own-level r l v, v .top);
       }
 
-  pub meets-one : (q : Placement) → Valid h H (q .reserve) (q .level) → Meets (placeAt h (q .reserve)) (Bests.Ciphertext q) (Bests.Ciphertext q)
+  pub meets-one : (q : Choice) → Valid h H (q .reserve) (q .level) → Meets (unchangedChoice h (q .reserve)) (Bests.Ciphertext q) (Bests.Ciphertext q)
   meets-one q v =
       let w = own-fits (q .reserve) (q .level) v in
       let reached : Reaches h H (Bests.Ciphertext q) (q .reserve) (lowestLevel h (q .reserve)) = (omega arith, own-level (q .reserve) (q .level) v) in
@@ -58,14 +58,14 @@ module _ (h : Header) (H : HeaderFacts h) where
   whole-le {r} {r′} e e′ o = omega (arith, ≤-read r r′ o, ap negative e, ap negative e′)
 
   -- ---- `add` of two ciphertexts: the smaller of two reserves is one of them
-  pub meets-sum : (q q′ : Placement) → Valid h H (q .reserve) (q .level) → Valid h H (q′ .reserve) (q′ .level)
-      → Meets (placeAt h (smaller (q .reserve) (q′ .reserve))) (Bests.Ciphertext q) (Bests.Ciphertext q′)
+  pub meets-sum : (q q′ : Choice) → Valid h H (q .reserve) (q .level) → Valid h H (q′ .reserve) (q′ .level)
+      → Meets (unchangedChoice h (smaller (q .reserve) (q′ .reserve))) (Bests.Ciphertext q) (Bests.Ciphertext q′)
   meets-sum q q′ v v′ = by-test P (leZ (q .reserve) (q′ .reserve)) (q .reserve) (q′ .reserve)
       (λ e. at (q .reserve) (q .level) v (omega signed) (record { le = subst (λ b. lib.Dec.T b) (sym e) tt }))
       (λ e. at (q′ .reserve) (q′ .level) v′ (omega (signed, e)) (omega signed))
     where
       P : ℤ → Type 0
-      P r = Meets (placeAt h r) (Bests.Ciphertext q) (Bests.Ciphertext q′)
+      P r = Meets (unchangedChoice h r) (Bests.Ciphertext q) (Bests.Ciphertext q′)
 
       at : (r : ℤ) (l : ℕ) → Valid h H r l → r ≤ℤ q .reserve → r ≤ℤ q′ .reserve → P r
       at r l u o o′ =
@@ -78,11 +78,14 @@ module _ (h : Header) (H : HeaderFacts h) where
             second-reached = reached q′ v′ o′;
           }
         where
-          reached : (t : Placement) → Valid h H (t .reserve) (t .level) → r ≤ℤ t .reserve → Reaches h H (Bests.Ciphertext t) r (lowestLevel h r)
-          reached t x y = (whole-le (u .whole) (x .whole) y, subst (λ (z : ℤ). lowestLevel h z ≤ t .level) (sym (u .whole)) (least h F⁺ (positive r) (t .level) (omega (arith, whole-le (u .whole) (x .whole) y, x .fits))))
+          reached : (t : Choice) → Valid h H (t .reserve) (t .level) → r ≤ℤ t .reserve → Reaches h H (Bests.Ciphertext t) r (lowestLevel h r)
+          reached t x y = (
+            whole-le (u .whole) (x .whole) y,
+            subst (λ (z : ℤ). lowestLevel h z ≤ t .level) (sym (u .whole)) (least h F⁺ (positive r) (t .level) (omega (arith, whole-le (u .whole) (x .whole) y, x .fits))),
+          )
 
   -- ---- `mul` with a constant
-  pub waterline-valid : (l n : ℕ) → n + h .waterline ≤ h .factor * l → floor h ≤ n → l ≤ h .top → Valid h H (atWaterline h l) l
+  pub waterline-valid : (l n : ℕ) → n + h .waterline ≤ h .factor * l → headroom h ≤ n → l ≤ h .top → Valid h H (atWaterline h l) l
   waterline-valid l n e f t =
       record {
         whole = is-positive (atWaterline h l) (omega (signed, parts- (pos (h .factor * l)) (pos (h .waterline))));
@@ -91,18 +94,18 @@ module _ (h : Header) (H : HeaderFacts h) where
         top = t;
       }
 
-  less-valid : (r : ℤ) (l : ℕ) → Valid h H r l → pos (floor h) ≤ℤ (r -ℤ pos (h .waterline)) → Valid h H (r -ℤ pos (h .waterline)) l
+  less-valid : (r : ℤ) (l : ℕ) → Valid h H r l → pos (headroom h) ≤ℤ (r -ℤ pos (h .waterline)) → Valid h H (r -ℤ pos (h .waterline)) l
   less-valid r l v o =
       let z : ℤ = r -ℤ pos (h .waterline) in
       let w : z ≡ pos (positive z) = is-positive z (omega (signed, o)) in
       record {
         whole = w;
         fits = omega (arith, parts- r (pos (h .waterline)), ap negative w, ap negative (v .whole), v .fits);
-        least = omega (arith, ≤-read (pos (floor h)) z o, ap negative w);
+        least = omega (arith, ≤-read (pos (headroom h)) z o, ap negative w);
         top = v .top;
       }
 
-  module _ (q : Placement) (v : Valid h H (q .reserve) (q .level)) (o : pos (floor h) ≤ℤ (q .reserve -ℤ pos (h .waterline))) where
+  module _ (q : Choice) (v : Valid h H (q .reserve) (q .level)) (o : pos (headroom h) ≤ℤ (q .reserve -ℤ pos (h .waterline))) where
     at-own : Valid h H (q .reserve) (lowestLevel h (q .reserve))
     at-own = own-fits (q .reserve) (q .level) v
 
@@ -112,11 +115,13 @@ module _ (h : Header) (H : HeaderFacts h) where
     reached : Reaches h H (Bests.Ciphertext q) (q .reserve) (lowestLevel h (q .reserve))
     reached = (omega arith, own-level (q .reserve) (q .level) v)
 
-    pub meets-times-constant : Meets (placeTimesConstant h (q .reserve)) (Bests.Ciphertext q) Bests.Constant
-    meets-times-constant = record { first = at-own; second = constant-valid; own = less-valid (q .reserve) (lowestLevel h (q .reserve)) at-own o; first-reached = reached; second-reached = tt }
+    pub meets-times-constant : Meets (timesConstantChoice h (q .reserve)) (Bests.Ciphertext q) Bests.Constant
+    meets-times-constant =
+        record { first = at-own; second = constant-valid; own = less-valid (q .reserve) (lowestLevel h (q .reserve)) at-own o; first-reached = reached; second-reached = tt }
 
-    pub meets-constant-times : Meets (placeConstantTimes h (q .reserve)) Bests.Constant (Bests.Ciphertext q)
-    meets-constant-times = record { first = constant-valid; second = at-own; own = less-valid (q .reserve) (lowestLevel h (q .reserve)) at-own o; first-reached = tt; second-reached = reached }
+    pub meets-constant-times : Meets (constantTimesChoice h (q .reserve)) Bests.Constant (Bests.Ciphertext q)
+    meets-constant-times =
+        record { first = constant-valid; second = at-own; own = less-valid (q .reserve) (lowestLevel h (q .reserve)) at-own o; first-reached = tt; second-reached = reached }
 
     -- the constant's W is taken from the reserve
     pub constant-scale : scaleAt h H (q .reserve) (lowestLevel h (q .reserve)) + scaleAt h H (atWaterline h (lowestLevel h (q .reserve))) (lowestLevel h (q .reserve))
@@ -131,18 +136,20 @@ module _ (h : Header) (H : HeaderFacts h) where
     )
 
   -- ---- `mul` of two ciphertexts
-  module _ (q q′ : Placement) (v : Valid h H (q .reserve) (q .level)) (v′ : Valid h H (q′ .reserve) (q′ .level)) (o : pos (floor h) ≤ℤ (placeProduct h (q .reserve) (q′ .reserve) .reserve)) where
-    abbrev p : Placement
-    p = placeProduct h (q .reserve) (q′ .reserve)
+  module _ (q q′ : Choice) (v : Valid h H (q .reserve) (q .level)) (v′ : Valid h H (q′ .reserve) (q′ .level))
+      (o : pos (headroom h) ≤ℤ (productChoice h (q .reserve) (q′ .reserve) .reserve)) where
+    abbrev p : Choice
+    p = productChoice h (q .reserve) (q′ .reserve)
 
     best : Optimal h F⁺ (q .reserve) (q′ .reserve) p
-    best = subst₂ (λ (x y : ℤ). Optimal h F⁺ x y (placeProduct h x y)) (sym (v .whole)) (sym (v′ .whole)) (optimal h F⁺ W⁺ (positive (q .reserve)) (positive (q′ .reserve)))
+    best = subst₂ (λ (x y : ℤ). Optimal h F⁺ x y (productChoice h x y)) (sym (v .whole)) (sym (v′ .whole)) (optimal h F⁺ W⁺ (positive (q .reserve)) (positive (q′ .reserve)))
 
     -- the reserve in its parts: what the operands come to, less F·l
     sum-parts : positive (p .reserve) + (negative (p .first) + negative (p .second) + h .factor * p .level) ≡ negative (p .reserve) + (positive (p .first) + positive (p .second))
     sum-parts = omega (
       arith,
-      ≡-read (p .reserve) (p .first +ℤ p .second -ℤ pos (h .factor * p .level)) (best .attained ∙ (λ i. sym (best .first-is) i +ℤ sym (best .second-is) i -ℤ pos (h .factor * p .level))),
+      ≡-read (p .reserve) (p .first +ℤ p .second -ℤ pos (h .factor * p .level))
+          (best .attained ∙ (λ i. sym (best .first-is) i +ℤ sym (best .second-is) i -ℤ pos (h .factor * p .level))),
       parts+ (p .first) (p .second),
       parts- (p .first +ℤ p .second) (pos (h .factor * p .level)),
     )
@@ -157,19 +164,21 @@ module _ (h : Header) (H : HeaderFacts h) where
     first-cut : positive (p .first) + h .waterline ≤ negative (p .first) + h .factor * p .level
     first-cut = omega (
       arith,
-      ≤-read (p .first) (atWaterline h (p .level)) (subst (λ (z : ℤ). z ≤ℤ atWaterline h (p .level)) (sym (best .first-is)) (smaller-below-right (q .reserve) (atWaterline h (p .level)))),
+      ≤-read (p .first) (atWaterline h (p .level))
+          (subst (λ (z : ℤ). z ≤ℤ atWaterline h (p .level)) (sym (best .first-is)) (smaller-below-right (q .reserve) (atWaterline h (p .level)))),
       parts- (pos (h .factor * p .level)) (pos (h .waterline)),
     )
 
     second-cut : positive (p .second) + h .waterline ≤ negative (p .second) + h .factor * p .level
     second-cut = omega (
       arith,
-      ≤-read (p .second) (atWaterline h (p .level)) (subst (λ (z : ℤ). z ≤ℤ atWaterline h (p .level)) (sym (best .second-is)) (smaller-below-right (q′ .reserve) (atWaterline h (p .level)))),
+      ≤-read (p .second) (atWaterline h (p .level))
+          (subst (λ (z : ℤ). z ≤ℤ atWaterline h (p .level)) (sym (best .second-is)) (smaller-below-right (q′ .reserve) (atWaterline h (p .level)))),
       parts- (pos (h .factor * p .level)) (pos (h .waterline)),
     )
 
-    enough : floor h + negative (p .reserve) ≤ positive (p .reserve) + 0
-    enough = ≤-read (pos (floor h)) (p .reserve) o
+    enough : headroom h + negative (p .reserve) ≤ positive (p .reserve) + 0
+    enough = ≤-read (pos (headroom h)) (p .reserve) o
 
     own-whole : p .reserve ≡ pos (positive (p .reserve))
     own-whole = is-positive (p .reserve) (omega (signed, enough))
@@ -190,7 +199,7 @@ module _ (h : Header) (H : HeaderFacts h) where
     second-fits : positive (p .second) + h .waterline ≤ h .factor * p .level
     second-fits = omega (arith, second-cut, ap negative second-whole)
 
-    least-left : floor h ≤ positive (p .reserve)
+    least-left : headroom h ≤ positive (p .reserve)
     least-left = omega (arith, enough, ap negative own-whole)
 
     low : p .level ≤ q .level

@@ -12,7 +12,7 @@ use lib.ListN.{length, getD, getElem?}
 use lib.Seq.{append-snoc}
 use Rattle.model.specs.declared.Line.{Line}
 use Rattle.model.specs.declared.Line.the-variants.{Free}
-use Rattle.model.specs.Machine.{Step, goes, stops, Run, finished, stopped, Machine, andThen, orAbsent, operand, step, countIn, runFrom, run}
+use Rattle.model.specs.Machine.{Step, goes, stops, Run, finished, stopped, Machine, andThen, orAbsent, heldBy, step, countIn, runFrom, run}
 use Rattle.model.proofs.Lists.{length-snoc, found-after, found-last}
 use Rattle.model.proofs.Tests.{cond-cases}
 
@@ -54,18 +54,18 @@ module _ {X E : Type 0} (A : E → Type 0) where
     pub outcome-cond : (b : Bool) (s t : Step X E) → (T b → Outcome A P s) → (T (not b) → Outcome A P t) → Outcome A P (cond b s t)
     outcome-cond b s t f g = cond-cases (Outcome A P) b s t f g
 
-    -- an operand, found or not
+    -- an heldBy, found or not
     pub outcome-operand : (M : Machine X E) (held : List X) (a : ℕ) (f : X → Step X E) → A (M .absent) → ((v : X) → getElem? held a ≡ some v → Outcome A P (f v))
-        → Outcome A P (andThen (operand M held a) f)
+        → Outcome A P (andThen (heldBy M held a) f)
     outcome-operand M held a f n k = go (getElem? held a) k
       where
         go : (o : Option X) → ((v : X) → o ≡ some v → Outcome A P (f v)) → Outcome A P (andThen (orAbsent (M .absent) o) f)
         go none k = n
         go (some v) k = k v refl
 
-    -- an operand that is known to be there
+    -- an heldBy that is known to be there
     pub outcome-found : (M : Machine X E) (held : List X) (a : ℕ) (f : X → Step X E) {v : X} → getElem? held a ≡ some v → Outcome A P (f v)
-        → Outcome A P (andThen (operand M held a) f)
+        → Outcome A P (andThen (heldBy M held a) f)
     outcome-found M held a f e p = subst (λ (o : Option X). Outcome A P (andThen (orAbsent (M .absent) o) f)) (sym e) p
 
 -- the value, as the step gives it
@@ -128,7 +128,8 @@ module _ {X E : Type 0} (M : Machine X E) where
         steps = s .steps;
       }
 
-  one-more : (ins : ℕ) (before : List Line) (held : List X) (x : Line) (v : X) → AllStepped before held → step M ins held x ≡ goes v → AllStepped (before ++ (x ∷ [])) (held ++ (v ∷ []))
+  one-more : (ins : ℕ) (before : List Line) (held : List X) (x : Line) (v : X) → AllStepped before held → step M ins held x ≡ goes v
+      → AllStepped (before ++ (x ∷ [])) (held ++ (v ∷ []))
   one-more ins before held x v all e =
       record {
         long = length-snoc held v ∙ ap suc (all .long) ∙ sym (length-snoc before x);

@@ -12,8 +12,9 @@ use lib.Signed.{_≤ℤ_, _<ℤ_, leZ, ltZ}
 use Rattle.ints.specs.Parts.{positive, negative}
 use Rattle.ints.proofs.Linear.{signed, parts+, parts-, le-true, le-false, ≡-goal}
 use Rattle.model.specs.declared.Header.{Header}
-use Rattle.model.specs.declared.Placement.{Placement}
-use Rattle.model.specs.Plan.{lowestLevel, smaller, atWaterline, placeUnequal, placeSame, placeBelow, greater, placeProduct, productAt}
+use Rattle.model.specs.declared.Choice.{Choice}
+use Rattle.model.proofs.Statements.Products.{productAt}
+use Rattle.model.specs.Plan.{lowestLevel, smaller, atWaterline, unequalChoice, sameLevelChoice, levelBelowChoice, greaterElseLower, productChoice}
 use Rattle.model.proofs.Tests.{by-test, below-or-not}
 use Rattle.model.proofs.Levels.{fits, short}
 
@@ -40,8 +41,8 @@ smaller-mono r r′ q q′ p p′ =
     (λ e. below-smaller r′ q q′ (omega (signed, le-false r r′ e)) p′)
 
 module _ (h : Header) (F⁺ : zero < h .factor) where
-  -- what the placement of a product is to be
-  pub record Optimal (r r′ : ℤ) (p : Placement) : Type 0 where
+  -- what the choice of a product is to be
+  pub record Optimal (r r′ : ℤ) (p : Choice) : Type 0 where
     pub attained : p .reserve ≡ productAt h r r′ (p .level)
     pub greatest : (l : ℕ) → productAt h r r′ l ≤ℤ p .reserve
     pub lowest : (l : ℕ) → l < p .level → productAt h r r′ l <ℤ p .reserve
@@ -60,7 +61,8 @@ module _ (h : Header) (F⁺ : zero < h .factor) where
   at-parts : (l : ℕ) → positive (atWaterline h l) + h .waterline ≡ negative (atWaterline h l) + h .factor * l
   at-parts l = omega (arith, parts- (pos (h .factor * l)) (pos (h .waterline)))
 
-  product-parts : (x y : ℤ) (l : ℕ) → positive (x +ℤ y -ℤ pos (h .factor * l)) + (negative x + negative y + h .factor * l) ≡ negative (x +ℤ y -ℤ pos (h .factor * l)) + (positive x + positive y)
+  product-parts : (x y : ℤ) (l : ℕ)
+      → positive (x +ℤ y -ℤ pos (h .factor * l)) + (negative x + negative y + h .factor * l) ≡ negative (x +ℤ y -ℤ pos (h .factor * l)) + (positive x + positive y)
   product-parts x y l = omega (arith, parts+ x y, parts- (x +ℤ y) (pos (h .factor * l)))
 
   swapped : (r r′ : ℤ) (l : ℕ) → productAt h r r′ l ≡ productAt h r′ r l
@@ -89,7 +91,8 @@ module _ (h : Header) (F⁺ : zero < h .factor) where
         subst (λ (z : ℤ). z <ℤ (pos a -ℤ pos (h .waterline))) (sym (both-cut a b l p (omega arith)))
         (omega (signed, short h F⁺ a l p, parts- (pos a) (pos (h .waterline)), parts- (pos (h .factor * l)) (pos (2 * h .waterline))))
 
-    at-most : (l : ℕ) → (l < lowestLevel h (pos a)) ⊎ (lowestLevel h (pos a) ≤ l) → (l < lowestLevel h (pos b)) ⊎ (lowestLevel h (pos b) ≤ l) → productAt h (pos a) (pos b) l ≤ℤ (pos a -ℤ pos (h .waterline))
+    at-most : (l : ℕ) → (l < lowestLevel h (pos a)) ⊎ (lowestLevel h (pos a) ≤ l) → (l < lowestLevel h (pos b)) ⊎ (lowestLevel h (pos b) ≤ l)
+        → productAt h (pos a) (pos b) l ≤ℤ (pos a -ℤ pos (h .waterline))
     at-most l (inl p) q = omega (signed, cut-below l p)
     at-most l (inr p) (inl q) = omega (signed, one-kept a b l p q)
     at-most l (inr p) (inr q) =
@@ -111,7 +114,8 @@ module _ (h : Header) (F⁺ : zero < h .factor) where
     less : a ≤ b
     less = omega (arith, fits h F⁺ a, short h F⁺ b (lowestLevel h (pos a)) u)
 
-  turned : (r r′ : ℤ) (m : ℕ) (x f s : ℤ) → Optimal r r′ (record { level = m; reserve = x; first = f; second = s }) → Optimal r′ r (record { level = m; reserve = x; first = s; second = f })
+  turned : (r r′ : ℤ) (m : ℕ) (x f s : ℤ) → Optimal r r′ (record { level = m; reserve = x; first = f; second = s })
+      → Optimal r′ r (record { level = m; reserve = x; first = s; second = f })
   turned r r′ m x f s o =
       record {
         attained = o .attained ∙ swapped r r′ m;
@@ -134,25 +138,36 @@ module _ (h : Header) (F⁺ : zero < h .factor) where
         go (inr p) = omega (arith, fits h F⁺ a, mul-le-mul-left (h .factor) p)
 
     -- below m it rises, from m on it falls
-    rises : (l : ℕ) → l < lowestLevel h (pos a) → productAt h (pos a) (pos b) l ≤ℤ (placeBelow h (lowestLevel h (pos a)) .reserve)
+    rises : (l : ℕ) → l < lowestLevel h (pos a) → productAt h (pos a) (pos b) l ≤ℤ (levelBelowChoice h (lowestLevel h (pos a)) .reserve)
     rises l p =
-        subst (λ (z : ℤ). z ≤ℤ (placeBelow h (lowestLevel h (pos a)) .reserve)) (sym (both-cut a b l p (omega arith)))
-        (omega (signed, mul-le-mul-left (h .factor) (up l p), parts- (pos (h .factor * l)) (pos (2 * h .waterline)), parts- (pos (h .factor * (lowestLevel h (pos a) - 1))) (pos (2 * h .waterline))))
+        subst (λ (z : ℤ). z ≤ℤ (levelBelowChoice h (lowestLevel h (pos a)) .reserve)) (sym (both-cut a b l p (omega arith)))
+        (omega (
+          signed,
+          mul-le-mul-left (h .factor) (up l p),
+          parts- (pos (h .factor * l)) (pos (2 * h .waterline)),
+          parts- (pos (h .factor * (lowestLevel h (pos a) - 1))) (pos (2 * h .waterline)),
+        ))
       where
         up : (l : ℕ) → l < lowestLevel h (pos a) → l ≤ lowestLevel h (pos a) - 1
         up l p = omega arith
 
-    rises-strictly : (l : ℕ) → l < lowestLevel h (pos a) - 1 → productAt h (pos a) (pos b) l <ℤ (placeBelow h (lowestLevel h (pos a)) .reserve)
+    rises-strictly : (l : ℕ) → l < lowestLevel h (pos a) - 1 → productAt h (pos a) (pos b) l <ℤ (levelBelowChoice h (lowestLevel h (pos a)) .reserve)
     rises-strictly l p =
-        subst (λ (z : ℤ). z <ℤ (placeBelow h (lowestLevel h (pos a)) .reserve)) (sym (both-cut a b l (omega arith) (omega arith)))
-        (omega (signed, mul-le-mul-left (h .factor) p, parts- (pos (h .factor * l)) (pos (2 * h .waterline)), parts- (pos (h .factor * (lowestLevel h (pos a) - 1))) (pos (2 * h .waterline))))
+        subst (λ (z : ℤ). z <ℤ (levelBelowChoice h (lowestLevel h (pos a)) .reserve)) (sym (both-cut a b l (omega arith) (omega arith)))
+        (omega (
+          signed,
+          mul-le-mul-left (h .factor) p,
+          parts- (pos (h .factor * l)) (pos (2 * h .waterline)),
+          parts- (pos (h .factor * (lowestLevel h (pos a) - 1))) (pos (2 * h .waterline)),
+        ))
 
-    falls : (l : ℕ) → lowestLevel h (pos a) ≤ l → productAt h (pos a) (pos b) l ≤ℤ (placeSame h (pos a) (pos b) (lowestLevel h (pos a)) .reserve)
+    falls : (l : ℕ) → lowestLevel h (pos a) ≤ l → productAt h (pos a) (pos b) l ≤ℤ (sameLevelChoice h (pos a) (pos b) (lowestLevel h (pos a)) .reserve)
     falls l p =
-        subst (λ (z : ℤ). z ≤ℤ (placeSame h (pos a) (pos b) (lowestLevel h (pos a)) .reserve)) (sym (both-kept a b l p (omega arith)))
+        subst (λ (z : ℤ). z ≤ℤ (sameLevelChoice h (pos a) (pos b) (lowestLevel h (pos a)) .reserve)) (sym (both-kept a b l p (omega arith)))
         (omega (signed, mul-le-mul-left (h .factor) p, product-parts (pos a) (pos b) l, product-parts (pos a) (pos b) (lowestLevel h (pos a))))
 
-    same : (placeBelow h (lowestLevel h (pos a)) .reserve) <ℤ (placeSame h (pos a) (pos b) (lowestLevel h (pos a)) .reserve) → Optimal (pos a) (pos b) (placeSame h (pos a) (pos b) (lowestLevel h (pos a)))
+    same : (levelBelowChoice h (lowestLevel h (pos a)) .reserve) <ℤ (sameLevelChoice h (pos a) (pos b) (lowestLevel h (pos a)) .reserve)
+        → Optimal (pos a) (pos b) (sameLevelChoice h (pos a) (pos b) (lowestLevel h (pos a)))
     same o =
         record {
           attained = sym (both-kept a b (lowestLevel h (pos a)) (omega arith) (omega arith));
@@ -162,11 +177,13 @@ module _ (h : Header) (F⁺ : zero < h .factor) where
           second-is = sym (kept-at b (lowestLevel h (pos a)) (omega arith));
         }
       where
-        go : (l : ℕ) → (l < lowestLevel h (pos a)) ⊎ (lowestLevel h (pos a) ≤ l) → productAt h (pos a) (pos b) l ≤ℤ (placeSame h (pos a) (pos b) (lowestLevel h (pos a)) .reserve)
+        go : (l : ℕ) → (l < lowestLevel h (pos a)) ⊎ (lowestLevel h (pos a) ≤ l)
+            → productAt h (pos a) (pos b) l ≤ℤ (sameLevelChoice h (pos a) (pos b) (lowestLevel h (pos a)) .reserve)
         go l (inl p) = omega (signed, rises l p, o)
         go l (inr p) = falls l p
 
-    lower : (placeSame h (pos a) (pos b) (lowestLevel h (pos a)) .reserve) ≤ℤ (placeBelow h (lowestLevel h (pos a)) .reserve) → Optimal (pos a) (pos b) (placeBelow h (lowestLevel h (pos a)))
+    lower : (sameLevelChoice h (pos a) (pos b) (lowestLevel h (pos a)) .reserve) ≤ℤ (levelBelowChoice h (lowestLevel h (pos a)) .reserve)
+        → Optimal (pos a) (pos b) (levelBelowChoice h (lowestLevel h (pos a)))
     lower o =
         record {
           attained = sym (both-cut a b (lowestLevel h (pos a) - 1) (omega (arith, some)) (omega (arith, some)));
@@ -176,15 +193,15 @@ module _ (h : Header) (F⁺ : zero < h .factor) where
           second-is = sym (cut-at b (lowestLevel h (pos a) - 1) (omega (arith, some)));
         }
       where
-        go : (l : ℕ) → (l < lowestLevel h (pos a)) ⊎ (lowestLevel h (pos a) ≤ l) → productAt h (pos a) (pos b) l ≤ℤ (placeBelow h (lowestLevel h (pos a)) .reserve)
+        go : (l : ℕ) → (l < lowestLevel h (pos a)) ⊎ (lowestLevel h (pos a) ≤ l) → productAt h (pos a) (pos b) l ≤ℤ (levelBelowChoice h (lowestLevel h (pos a)) .reserve)
         go l (inl p) = rises l p
         go l (inr p) = omega (signed, falls l p, o)
 
-    equal : Optimal (pos a) (pos b) (greater (placeBelow h (lowestLevel h (pos a))) (placeSame h (pos a) (pos b) (lowestLevel h (pos a))))
-    equal = by-test (Optimal (pos a) (pos b)) (ltZ (placeBelow h (lowestLevel h (pos a)) .reserve) (placeSame h (pos a) (pos b) (lowestLevel h (pos a)) .reserve)) _ _
+    equal : Optimal (pos a) (pos b) (greaterElseLower (levelBelowChoice h (lowestLevel h (pos a))) (sameLevelChoice h (pos a) (pos b) (lowestLevel h (pos a))))
+    equal = by-test (Optimal (pos a) (pos b)) (ltZ (levelBelowChoice h (lowestLevel h (pos a)) .reserve) (sameLevelChoice h (pos a) (pos b) (lowestLevel h (pos a)) .reserve)) _ _
         (λ t. same (omega (signed, t))) (λ t. lower (omega (signed, t)))
 
-  pub optimal : zero < h .waterline → (a b : ℕ) → Optimal (pos a) (pos b) (placeProduct h (pos a) (pos b))
+  pub optimal : zero < h .waterline → (a b : ℕ) → Optimal (pos a) (pos b) (productChoice h (pos a) (pos b))
   optimal W⁺ a b = by-test (Optimal (pos a) (pos b)) (eqb (lowestLevel h (pos a)) (lowestLevel h (pos b))) _ _
       (λ t. equal W⁺ a b (eqb→eq (lowestLevel h (pos a)) (lowestLevel h (pos b)) (subst T (sym t) tt)))
       (λ t. apart (below-or-not (lowestLevel h (pos a)) (lowestLevel h (pos b))) (λ e. differ t e))
@@ -193,7 +210,7 @@ module _ (h : Header) (F⁺ : zero < h .factor) where
       differ t e = subst T t (subst (λ (k : ℕ). T (eqb (lowestLevel h (pos a)) k)) e (eqb-refl (lowestLevel h (pos a))))
 
       apart : (lowestLevel h (pos a) < lowestLevel h (pos b)) ⊎ (lowestLevel h (pos b) ≤ lowestLevel h (pos a)) → (lowestLevel h (pos a) ≡ lowestLevel h (pos b) → ⊥)
-          → Optimal (pos a) (pos b) (placeUnequal h (pos a) (pos b) (min (lowestLevel h (pos a)) (lowestLevel h (pos b))))
+          → Optimal (pos a) (pos b) (unequalChoice h (pos a) (pos b) (min (lowestLevel h (pos a)) (lowestLevel h (pos b))))
       apart (inl p) d = by-test (Optimal (pos a) (pos b)) (leZ (pos a) (pos b)) _ _
           (λ t. unequal a b p (min (lowestLevel h (pos a)) (lowestLevel h (pos b))) (omega arith))
           (λ t. absurd (over (less a b p) (le-false (pos a) (pos b) t)))
@@ -214,19 +231,19 @@ module _ (h : Header) (F⁺ : zero < h .factor) where
           over x = omega (arith, fits h F⁺ b)
 
   -- the level of a product is at most each operand's m
-  pub product-level : (r r′ : ℤ) → (placeProduct h r r′ .level ≤ lowestLevel h r) × (placeProduct h r r′ .level ≤ lowestLevel h r′)
+  pub product-level : (r r′ : ℤ) → (productChoice h r r′ .level ≤ lowestLevel h r) × (productChoice h r r′ .level ≤ lowestLevel h r′)
   product-level r r′ = by-test P (eqb (lowestLevel h r) (lowestLevel h r′)) _ _
-      (λ t. by-test P (ltZ (placeBelow h (lowestLevel h r) .reserve) (placeSame h r r′ (lowestLevel h r) .reserve)) _ _ (λ u. same t) (λ u. below t))
+      (λ t. by-test P (ltZ (levelBelowChoice h (lowestLevel h r) .reserve) (sameLevelChoice h r r′ (lowestLevel h r) .reserve)) _ _ (λ u. same t) (λ u. below t))
       (λ t. by-test P (leZ r r′) _ _ (λ u. omega arith) (λ u. omega arith))
     where
-      P : Placement → Type 0
+      P : Choice → Type 0
       P p = (p .level ≤ lowestLevel h r) × (p .level ≤ lowestLevel h r′)
 
       equal-levels : eqb (lowestLevel h r) (lowestLevel h r′) ≡ true → lowestLevel h r ≡ lowestLevel h r′
       equal-levels t = eqb→eq (lowestLevel h r) (lowestLevel h r′) (subst T (sym t) tt)
 
-      same : eqb (lowestLevel h r) (lowestLevel h r′) ≡ true → P (placeSame h r r′ (lowestLevel h r))
+      same : eqb (lowestLevel h r) (lowestLevel h r′) ≡ true → P (sameLevelChoice h r r′ (lowestLevel h r))
       same t = omega (arith, equal-levels t)
 
-      below : eqb (lowestLevel h r) (lowestLevel h r′) ≡ true → P (placeBelow h (lowestLevel h r))
+      below : eqb (lowestLevel h r) (lowestLevel h r′) ≡ true → P (levelBelowChoice h (lowestLevel h r))
       below t = omega (arith, equal-levels t)

@@ -6,6 +6,7 @@ use mathlib.Core.Path.{_≡_, refl, subst, subst₂}
 use mathlib.Core.Bool.{not}
 use mathlib.Core.List.{List}
 use lib.Dec.{T, T-not}
+use lib.ListN.{length}
 use lib.IntN.{ℤ, pos, _-ℤ_}
 use lib.Signed.{ltZ}
 use Rattle.model.specs.declared.Header.{Header}
@@ -15,13 +16,13 @@ use Rattle.model.specs.declared.Grammar.{Grammar}
 use Rattle.model.specs.declared.Grammar.the-variants.{Circuit, Schedule}
 use Rattle.model.specs.declared.Kind.{Kind}
 use Rattle.model.specs.declared.Kind.the-variants.{Ciphertext, Constant}
-use Rattle.model.specs.Scales.{floor}
+use Rattle.model.specs.Scales.{headroom}
 use Rattle.model.specs.Files.{isWord, isCiphertext, isConstant, isPair, wellFormed}
 use Rattle.model.specs.Machine.{Step, goes, stops, finished, stopped, Machine, run}
-use Rattle.model.specs.declared.Placement.{Placement}
+use Rattle.model.specs.declared.Choice.{Choice}
 use Rattle.model.specs.declared.Best.{Best}
 use Rattle.model.specs.declared.Best.the-variants as Bests
-use Rattle.model.specs.Plan.{smaller, placeInput, placeAt, placeTimesConstant, placeConstantTimes, placeProduct, placed, onReserves, bestMachine}
+use Rattle.model.specs.Plan.{smaller, inputChoice, unchangedChoice, timesConstantChoice, constantTimesChoice, productChoice, unlessTooFew, onReserves, bestMachine}
 use Rattle.model.specs.Plan
 use Rattle.model.specs.declared.Found.{Found}
 use Rattle.model.specs.declared.Found.the-variants as Founds
@@ -50,7 +51,7 @@ module _ (A : Type 0) where
 module _ {X E : Type 0} (M : Machine X E) (A : E → Type 0) (kind : X → Kind) (g : Grammar) (h : Header) (lines : List Line) (formed : T (wellFormed g h lines))
     (duty : (i : ℕ) (x : Line) → T (isWord g x) → Duty M A (OfKind kind) g i x) where
   outcome : RunOutcome A (Matched (OfKind kind) lines) (run M lines)
-  outcome = formed-run M A (OfKind kind) g h lines (well-lines g h lines formed) (λ before x rest e w r. duty _ x w)
+  outcome = formed-run M A (OfKind kind) g h lines (well-lines g h lines formed) (λ before x rest e w r. duty (length before) x w)
 
   pub stops-only : (i : ℕ) (n : E) → run M lines ≡ stopped i n → A n
   stops-only i n e = when-stopped A (Matched (OfKind kind) lines) (run M lines) e outcome
@@ -70,29 +71,30 @@ module _ (h : Header) (i : ℕ) where
   abbrev BestHolds : Line → Best → Type 0
   BestHolds x = Result (OfKind bestKind) i x
 
-  is-placed : (P : Best → Type 0) (p : Placement) → P (Bests.Ciphertext p) → Outcome Six P (placed h p)
-  is-placed P p k = outcome-cond Six P (ltZ (p .reserve) (pos (floor h))) (stops 6) (goes (Bests.Ciphertext p)) (λ t. refl) (λ t. k)
+  is-chosen : (P : Best → Type 0) (p : Choice) → P (Bests.Ciphertext p) → Outcome Six P (unlessTooFew h p)
+  is-chosen P p k = outcome-cond Six P (ltZ (p .reserve) (pos (headroom h))) (stops 6) (goes (Bests.Ciphertext p)) (λ t. refl) (λ t. k)
 
-  best-one : (x : Line) (a : ℕ) (f : Placement → Step Best ℕ) → ((p : Placement) → Outcome Six (BestHolds x) (f p))
-      → OnOne Six (OfKind bestKind) i x a Ciphertext (Plan.onCiphertext f)
+  best-one : (x : Line) (a : ℕ) (f : Choice → Step Best ℕ) → ((p : Choice) → Outcome Six (BestHolds x) (f p))
+      → OnOne Six (OfKind bestKind) i x a Ciphertext (Plan.onBest f)
   best-one x a f k Bests.Constant e = right-ciphertext (5 ≡ 6) e tt
   best-one x a f k (Bests.Ciphertext p) e = k p
 
-  best-two : (x : Line) (a b : ℕ) (both : ℤ → ℤ → Placement) (left right : ℤ → Placement) → ((p : Placement) → BestHolds x (Bests.Ciphertext p))
-      → OnTwo Six (OfKind bestKind) Circuit i x a b (onReserves (λ r r′. placed h (both r r′)) (λ r. placed h (left r)) (λ r. placed h (right r)))
+  best-two : (x : Line) (a b : ℕ) (both : ℤ → ℤ → Choice) (left right : ℤ → Choice) → ((p : Choice) → BestHolds x (Bests.Ciphertext p))
+      → OnTwo Six (OfKind bestKind) Circuit i x a b (onReserves (λ r r′. unlessTooFew h (both r r′)) (λ r. unlessTooFew h (left r)) (λ r. unlessTooFew h (right r)))
   best-two x a b both left right k j l Bests.Constant Bests.Constant t e f = right-pair (5 ≡ 6) Circuit t e f tt
-  best-two x a b both left right k j l Bests.Constant (Bests.Ciphertext q) t e f = is-placed (BestHolds x) (right (q .reserve)) (k (right (q .reserve)))
-  best-two x a b both left right k j l (Bests.Ciphertext p) Bests.Constant t e f = is-placed (BestHolds x) (left (p .reserve)) (k (left (p .reserve)))
+  best-two x a b both left right k j l Bests.Constant (Bests.Ciphertext q) t e f = is-chosen (BestHolds x) (right (q .reserve)) (k (right (q .reserve)))
+  best-two x a b both left right k j l (Bests.Ciphertext p) Bests.Constant t e f = is-chosen (BestHolds x) (left (p .reserve)) (k (left (p .reserve)))
   best-two x a b both left right k j l (Bests.Ciphertext p) (Bests.Ciphertext q) t e f =
-      is-placed (BestHolds x) (both (p .reserve) (q .reserve)) (k (both (p .reserve) (q .reserve)))
+      is-chosen (BestHolds x) (both (p .reserve) (q .reserve)) (k (both (p .reserve) (q .reserve)))
 
   best-duty : (x : Line) → T (isWord Circuit x) → Duty (bestMachine h) Six (OfKind bestKind) Circuit i x
-  best-duty In w = λ k. is-placed (BestHolds In) (placeInput h) (λ u. refl)
+  best-duty In w = λ k. is-chosen (BestHolds In) (inputChoice h) (λ u. refl)
   best-duty (Const k) w = λ u. refl
-  best-duty (Neg a) w = best-one (Neg a) a (λ p. placed h (placeAt h (p .reserve))) (λ p. is-placed (BestHolds (Neg a)) (placeAt h (p .reserve)) (λ u. refl))
-  best-duty (Rot a n) w = best-one (Rot a n) a (λ p. placed h (placeAt h (p .reserve))) (λ p. is-placed (BestHolds (Rot a n)) (placeAt h (p .reserve)) (λ u. refl))
-  best-duty (Add a b) w = best-two (Add a b) a b (λ r r′. placeAt h (smaller r r′)) (placeAt h) (placeAt h) (λ p u. refl)
-  best-duty (Mul a b) w = best-two (Mul a b) a b (placeProduct h) (placeTimesConstant h) (placeConstantTimes h) (λ p u. refl)
+  best-duty (Neg a) w = best-one (Neg a) a (λ p. unlessTooFew h (unchangedChoice h (p .reserve))) (λ p. is-chosen (BestHolds (Neg a)) (unchangedChoice h (p .reserve)) (λ u. refl))
+  best-duty (Rot a n) w = best-one (Rot a n) a (λ p. unlessTooFew h (unchangedChoice h (p .reserve)))
+      (λ p. is-chosen (BestHolds (Rot a n)) (unchangedChoice h (p .reserve)) (λ u. refl))
+  best-duty (Add a b) w = best-two (Add a b) a b (λ r r′. unchangedChoice h (smaller r r′)) (unchangedChoice h) (unchangedChoice h) (λ p u. refl)
+  best-duty (Mul a b) w = best-two (Mul a b) a b (productChoice h) (timesConstantChoice h) (constantTimesChoice h) (λ p u. refl)
   best-duty (Out a) w = best-one (Out a) a (λ p. goes (Bests.Ciphertext p)) (λ p u. absurd u)
   best-duty (Enc a s e) w = absurd w
   best-duty (Rs a c) w = absurd w

@@ -31,7 +31,8 @@ module _ {X E : Type 0} where
 
 module _ {X E : Type 0} (M : Machine X E) where
   -- what was held is held at the end
-  pub kept-on : (xs : List Line) (k : ℕ) (held : List X) {final : List X} → runFrom M k held xs ≡ finished final → (a : ℕ) {v : X} → getElem? held a ≡ some v → getElem? final a ≡ some v
+  pub kept-on : (xs : List Line) (k : ℕ) (held : List X) {final : List X} → runFrom M k held xs ≡ finished final → (a : ℕ) {v : X} → getElem? held a ≡ some v
+      → getElem? final a ≡ some v
   kept-on [] k held e a p = ap (λ (l : List X). getElem? l a) (sym (finished-is e)) ∙ p
   kept-on (x ∷ xs) k held {final} e a {v} p = go (step M k held x) e (λ w q. kept-on xs (countIn x k) (held ++ (w ∷ [])) q a (found-after held (w ∷ []) a p))
     where
@@ -60,7 +61,8 @@ module _ {X E : Type 0} (M : Machine X E) where
       go (goes v) p n back = let c = n v p in record { ins = c .ins; goes-on = back (c .ins) (c .goes-on) }
 
   -- one line more
-  pub run-snoc : (xs : List Line) (x : Line) {held : List X} {v : X} → run M xs ≡ finished held → ((k : ℕ) → step M k held x ≡ goes v) → run M (xs ++ (x ∷ [])) ≡ finished (held ++ (v ∷ []))
+  pub run-snoc : (xs : List Line) (x : Line) {held : List X} {v : X} → run M xs ≡ finished held → ((k : ℕ) → step M k held x ≡ goes v)
+      → run M (xs ++ (x ∷ [])) ≡ finished (held ++ (v ∷ []))
   run-snoc xs x {held} {v} e f =
       let c = continued xs 0 [] (x ∷ []) held e in
       c .goes-on ∙ ap (λ (s : Step X E). elim s [ goes v ↦ finished (held ++ (v ∷ [])) | stops d ↦ stopped (length held) d ]) (f (c .ins))

@@ -18,11 +18,11 @@ use Rattle.model.specs.declared.Line.the-variants.{In, Const, Neg, Rot, 
 use Rattle.model.specs.declared.Grammar.the-variants.{Schedule}
 use Rattle.model.specs.declared.Kind.{Kind}
 use Rattle.model.specs.declared.Kind.the-variants.{Ciphertext, Constant, Encoded, Nothing}
-use Rattle.model.specs.Scales.{floor}
+use Rattle.model.specs.Scales.{headroom}
 use Rattle.model.specs.Files.{kindAt, isCiphertext, isEncoded, isUsable, wellFormed}
-use Rattle.model.specs.Machine.{Step, finished, andThen, operand, step, run}
+use Rattle.model.specs.Machine.{Step, finished, andThen, heldBy, step, run}
 use Rattle.model.specs.Rules.{Rule, Bounds, hasScale, KeepsRules}
-use Rattle.model.specs.Machines.{Vector, Handed, Reason, levelsDiffer, scalesDiffer, remainder, belowWaterline, aboveModulus, Holding, bare, scaled, slotwise, rotated, timesTwoTo, overTwoTo, noRemainder, stopIf, holds, onScaled, onBare, scaledSum, scaledProduct, rescaled, plainMachine, scaleMachine}
+use Rattle.model.specs.Machines.{Vector, Handed, Reason, levelsDiffer, scalesDiffer, remainder, belowWaterline, aboveModulus, Holding, bare, scaled, slotwise, rotated, timesTwoTo, overTwoTo, noRemainder, stopIf, ifBounded, onScaled, onBareVector, scaledSum, scaledProduct, rescaled, plainMachine, scaleMachine}
 use Rattle.model.specs.declared.Found.{Found}
 use Rattle.model.specs.declared.Found.the-variants as Founds
 use Rattle.model.specs.Refused.{checkMachine}
@@ -38,7 +38,7 @@ use Rattle.model.proofs.Checked as checked
 use Rattle.model.proofs.Checked.{foundKind, taken, Agrees, keeps-agrees}
 use Rattle.model.proofs.Exactly.{Agree, agreeing}
 
--- ---- the scale and the level that a line holds, 0 for a bare constant
+-- ---- the scale and the level that a line ifBounded, 0 for a bare constant
 abbrev scaleOf : Holding → ℕ
 scaleOf (bare v) = 0
 scaleOf (scaled s l v) = s
@@ -72,21 +72,21 @@ module _ (P : Holding → Type 0) where
   on-equal : (m n : ℕ) (e : Reason) (r : Step Holding Reason) → (m ≡ n → Outcome AnyReason P r) → Outcome AnyReason P (stopIf (not (eqb m n)) e r)
   on-equal m n e r k = on-stop (not (eqb m n)) e r (λ t. k (eqb→eq m n (not-not (eqb m n) t)))
 
-  -- an operand that has a scale, and one that has none
+  -- an heldBy that has a scale, and one that has none
   on-scaled : (f : ℕ → ℕ → Vector → Step Holding Reason) (y : Holding) → ((v : Vector) → Outcome AnyReason P (f (scaleOf y) (levelOf y) v)) → Outcome AnyReason P (onScaled f y)
   on-scaled f (bare v) k = tt
   on-scaled f (scaled s l v) k = k v
 
-  on-bare : (f : Vector → Step Holding Reason) (y : Holding) → ((v : Vector) → Outcome AnyReason P (f v)) → Outcome AnyReason P (onBare f y)
+  on-bare : (f : Vector → Step Holding Reason) (y : Holding) → ((v : Vector) → Outcome AnyReason P (f v)) → Outcome AnyReason P (onBareVector f y)
   on-bare f (bare v) k = k v
   on-bare f (scaled s l v) k = tt
 
   -- scale and level are whole and within W ≤ scale ≤ F·level
-  on-holds : (h : Header) → zero < h .waterline → (s l : ℤ) (v : Vector) → (Tested h s l → P (scaled (positive s) (positive l) v)) → Outcome AnyReason P (holds h s l v)
+  on-holds : (h : Header) → zero < h .waterline → (s l : ℤ) (v : Vector) → (Tested h s l → P (scaled (positive s) (positive l) v)) → Outcome AnyReason P (ifBounded h s l v)
   on-holds h W⁺ s l v k =
       on-stop (ltZ s (pos (h .waterline))) belowWaterline _ (λ t.
-      on-stop (ltZ (pos (h .factor) *ℤ l) (s +ℤ pos (floor h))) aboveModulus _ (λ u.
-      k (tested h W⁺ s l (at-least s (pos (h .waterline)) t) (at-least (pos (h .factor) *ℤ l) (s +ℤ pos (floor h)) u))))
+      on-stop (ltZ (pos (h .factor) *ℤ l) (s +ℤ pos (headroom h))) aboveModulus _ (λ u.
+      k (tested h W⁺ s l (at-least s (pos (h .waterline)) t) (at-least (pos (h .factor) *ℤ l) (s +ℤ pos (headroom h)) u))))
 
 -- ---- a run that finished: each line keeps its rule
 -- line x, the i-th, by the numbers of the final list
@@ -100,26 +100,29 @@ Ruled h final i x y = scaleIn final i ≡ scaleOf y → levelIn final i ≡ leve
 
 module _ (H : Handed) (h : Header) (W⁺ : zero < h .waterline) (final : List Holding) (i : ℕ) where
   holds-ruled : (x : Line) (s l : ℤ) (v : Vector) → (Tested h s l → scaleIn final i ≡ positive s → levelIn final i ≡ positive l → Rule h (scaleIn final) (levelIn final) i x)
-      → Outcome AnyReason (Ruled h final i x) (holds h s l v)
+      → Outcome AnyReason (Ruled h final i x) (ifBounded h s l v)
   holds-ruled x s l v k = on-holds (Ruled h final i x) h W⁺ s l v (λ t r u. record { rule = k t r u; bounds = λ c. subst₂ (Bounds h) (sym r) (sym u) (t .bounds) })
 
   module _ (ins : ℕ) (held : List Holding) (among : (a : ℕ) (y : Holding) → getElem? held a ≡ some y → getElem? final a ≡ some y) where
     -- a word on one value
-    one : (x : Line) (a : ℕ) (f : Holding → Step Holding Reason) → ((y : Holding) → scaleIn final a ≡ scaleOf y → levelIn final a ≡ levelOf y → Outcome AnyReason (Ruled h final i x) (f y))
-        → Outcome AnyReason (Ruled h final i x) (andThen (operand (scaleMachine H h) held a) f)
+    one : (x : Line) (a : ℕ) (f : Holding → Step Holding Reason)
+        → ((y : Holding) → scaleIn final a ≡ scaleOf y → levelIn final a ≡ levelOf y → Outcome AnyReason (Ruled h final i x) (f y))
+        → Outcome AnyReason (Ruled h final i x) (andThen (heldBy (scaleMachine H h) held a) f)
     one x a f k = outcome-operand AnyReason (Ruled h final i x) (scaleMachine H h) held a f tt
         (λ y e. let g = found-is final a (bare []) (among a y e) in k y (ap scaleOf g) (ap levelOf g))
 
     -- a word on one value with a scale
     unary : (x : Line) (a : ℕ) (f : ℕ → ℕ → Vector → Step Holding Reason)
         → ((s l : ℕ) (v : Vector) → scaleIn final a ≡ s → levelIn final a ≡ l → Outcome AnyReason (Ruled h final i x) (f s l v))
-        → Outcome AnyReason (Ruled h final i x) (andThen (operand (scaleMachine H h) held a) (onScaled f))
+        → Outcome AnyReason (Ruled h final i x) (andThen (heldBy (scaleMachine H h) held a) (onScaled f))
     unary x a f k = one x a (onScaled f) (λ y p q. on-scaled (Ruled h final i x) f y (λ v. k (scaleOf y) (levelOf y) v p q))
 
     -- a word on two values with scales
     binary : (x : Line) (a b : ℕ) (f : ℕ → ℕ → Vector → ℕ → ℕ → Vector → Step Holding Reason)
-        → ((s l : ℕ) (v : Vector) (s′ l′ : ℕ) (v′ : Vector) → scaleIn final a ≡ s → levelIn final a ≡ l → scaleIn final b ≡ s′ → levelIn final b ≡ l′ → Outcome AnyReason (Ruled h final i x) (f s l v s′ l′ v′))
-        → Outcome AnyReason (Ruled h final i x) (andThen (operand (scaleMachine H h) held a) (λ y. andThen (operand (scaleMachine H h) held b) (λ y′. onScaled (λ s l v. onScaled (f s l v) y′) y)))
+        → ((s l : ℕ) (v : Vector) (s′ l′ : ℕ) (v′ : Vector) → scaleIn final a ≡ s → levelIn final a ≡ l → scaleIn final b ≡ s′ → levelIn final b ≡ l′
+        → Outcome AnyReason (Ruled h final i x) (f s l v s′ l′ v′))
+        → Outcome AnyReason (Ruled h final i x)
+        (andThen (heldBy (scaleMachine H h) held a) (λ y. andThen (heldBy (scaleMachine H h) held b) (λ y′. onScaled (λ s l v. onScaled (f s l v) y′) y)))
     binary x a b f k = one x a _ (λ y p q. one x b _ (λ y′ p′ q′.
         on-scaled (Ruled h final i x) (λ s l v. onScaled (f s l v) y′) y (λ v.
         on-scaled (Ruled h final i x) (f (scaleOf y) (levelOf y) v) y′ (λ v′. k (scaleOf y) (levelOf y) v (scaleOf y′) (levelOf y′) v′ p q p′ q′))))
@@ -136,7 +139,7 @@ module _ (H : Handed) (h : Header) (W⁺ : zero < h .waterline) (final : List Ho
         on-equal (Ruled h final i (Mul a b)) l l′ levelsDiffer _ (λ e.
         holds-ruled (Mul a b) (pos (s + s′)) (pos l) (slotwise _*ℤ_ v v′) (λ t r u. omega arith)))
     ruled (Out a) = unary (Out a) a _ (λ s l v p q. holds-ruled (Out a) (pos s) (pos l) v (λ t r u. omega arith))
-    ruled (Enc a s e) = one (Enc a s e) a _ (λ y p q. on-bare (Ruled h final i (Enc a s e)) (λ v. holds h (pos s) (pos e) (timesTwoTo s v)) y (λ v.
+    ruled (Enc a s e) = one (Enc a s e) a _ (λ y p q. on-bare (Ruled h final i (Enc a s e)) (λ v. ifBounded h (pos s) (pos e) (timesTwoTo s v)) y (λ v.
         holds-ruled (Enc a s e) (pos s) (pos e) (timesTwoTo s v) (λ t r u. (r, u))))
     ruled (Rs a c) = unary (Rs a c) a (rescaled h c) (λ s l v p q.
         on-stop (Ruled h final i (Rs a c)) (not (noRemainder (h .factor * c) v)) remainder _ (λ n.

@@ -17,7 +17,8 @@ use Rattle.model.specs.declared.Line.the-variants.{Enc, Rs, Ms, Us}
 use Rattle.model.specs.declared.Grammar.the-variants.{Schedule}
 use Rattle.model.specs.declared.Kind.{Kind}
 use Rattle.model.specs.declared.Kind.the-variants.{Ciphertext, Constant, Encoded}
-use Rattle.model.specs.Scales.{within, floor}
+use Rattle.rows.specs.Fields.{within}
+use Rattle.model.specs.Scales.{headroom}
 use Rattle.model.specs.Files.{kindOf, kindAt, isUsable, isCiphertext, isConstant, lineFormed}
 use Rattle.model.specs.Machine.{Step, goes, andThen, step}
 use Rattle.model.specs.Rules.{Bounds}
@@ -50,7 +51,8 @@ module _ (h : Header) (H : HeaderFacts h) where
       pub checks : (k : ℕ) → step (checkMachine h) k (foundIn h lines) (word i n) ≡ goes (Founds.Ciphertext s′ l′)
       pub formed : T (lineFormed Schedule h lines (word i n))
 
-    unless : {c : List Line} {ns : List ℕ} {o : ℕ} (n : ℕ) (d : Draft) (s l s′ l′ : ℕ) → Sound h (d .lines) c ns → Stands h (d .lines) (d .number) (Founds.Ciphertext s l) Ciphertext o
+    unless : {c : List Line} {ns : List ℕ} {o : ℕ} (n : ℕ) (d : Draft) (s l s′ l′ : ℕ) → Sound h (d .lines) c ns
+        → Stands h (d .lines) (d .number) (Founds.Ciphertext s l) Ciphertext o
         → (n ≡ 0 → (s ≡ s′) × (l ≡ l′)) → (1 ≤ n → Converts (d .lines) (d .number) n s l s′ l′)
         → Grown h 1 (d .lines) (unlessZero word n d .lines) c ns (unlessZero word n d .number) (Founds.Ciphertext s′ l′) Ciphertext o
     unless {o} zero d s l s′ l′ S t z f =
@@ -62,7 +64,7 @@ module _ (h : Header) (H : HeaderFacts h) where
 
   -- what the check makes of a ciphertext operand
   on-operand : {lines : List Line} {i : ℕ} {o : ℕ} (s l : ℕ) (f : ℕ → ℕ → Step Found ℕ) (t : Step Found ℕ) → Stands h lines i (Founds.Ciphertext s l) Ciphertext o → f s l ≡ t
-      → andThen (Rattle.model.specs.Machine.operand (checkMachine h) (foundIn h lines) i) (onCiphertext f) ≡ t
+      → andThen (Rattle.model.specs.Machine.heldBy (checkMachine h) (foundIn h lines) i) (onCiphertext f) ≡ t
   on-operand s l f t st e = ap (λ (u : Step Found ℕ). andThen u (onCiphertext f)) (reads h st) ∙ e
 
   count-ok : (n : ℕ) → 1 ≤ n → n ≤ h .top → T (within 1 60 n)
@@ -72,7 +74,8 @@ module _ (h : Header) (H : HeaderFacts h) where
   bits-ok n l a b c = within-passes 1 3600 n (record { least = a; most = omega (arith, few-bits l b) })
 
   -- ---- the three conversions in turn
-  module _ (n n′ l l′ q : ℕ) (fits : n + h .waterline ≤ h .factor * l) (fits′ : n′ + h .waterline ≤ h .factor * l′) (least : floor h ≤ n′) (less : n′ ≤ n) (lower : l′ ≤ l) (top : l ≤ h .top)
+  module _ (n n′ l l′ q : ℕ) (fits : n + h .waterline ≤ h .factor * l) (fits′ : n′ + h .waterline ≤ h .factor * l′) (least : headroom h ≤ n′) (less : n′ ≤ n) (lower : l′ ≤ l)
+      (top : l ≤ h .top)
       (few : q ≤ l - l′) (spent : h .factor * q ≤ n - n′) where
     split : h .factor * l ≡ h .factor * (l - l′ - q) + h .factor * l′ + h .factor * q
     split = ap (λ (x : ℕ). h .factor * x) (omega arith) ∙ mul-add (h .factor) (l - l′ - q + l′) q ∙ ap (λ (x : ℕ). x + h .factor * q) (mul-add (h .factor) (l - l′ - q) l′)
@@ -116,7 +119,8 @@ module _ (h : Header) (H : HeaderFacts h) where
         g₂ = unless Us (λ i m. refl) (λ i m. refl) (n - n′ - q * h .factor) d₁ s (l - q) s₂ (l - q) (g₁ .sound) (g₁ .stands) (λ e. (omega arith, refl))
             (λ e. record {
               checks = λ k. on-operand s (l - q) _ _ (g₁ .stands) (bounded-goes h Founds.Ciphertext s₂ (l - q) b₂);
-              formed = on-ciphertext-formed (within 1 3600 (n - n′ - q * h .factor)) (kindAt (d₁ .lines) (d₁ .number)) (bits-ok (n - n′ - q * h .factor) l e top (omega arith)) (kind-at h (g₁ .stands));
+              formed = on-ciphertext-formed (within 1 3600 (n - n′ - q * h .factor)) (kindAt (d₁ .lines) (d₁ .number)) (bits-ok (n - n′ - q * h .factor) l e top (omega arith))
+                  (kind-at h (g₁ .stands));
             })
 
         g₃ : Grown h 1 (d₂ .lines) (convert h (n - n′) (l - l′) q d .lines) c ns (convert h (n - n′) (l - l′) q d .number) (Founds.Ciphertext (h .factor * l′ - n′) l′) Ciphertext o
@@ -124,7 +128,8 @@ module _ (h : Header) (H : HeaderFacts h) where
             (λ e. (omega (arith, split, ap (λ (x : ℕ). h .factor * x) e), omega arith))
             (λ e. record {
               checks = λ k. on-operand s₂ (l - q) _ _ (g₂ .stands)
-                  (ap₂ (bounded h Founds.Ciphertext) (sub-is s₂ (h .factor * (l - l′ - q)) (omega (arith, split)) ∙ ap pos (omega (arith, split))) (sub-is (l - q) (l - l′ - q) (omega arith) ∙ ap pos (omega arith))
+                  (ap₂ (bounded h Founds.Ciphertext) (sub-is s₂ (h .factor * (l - l′ - q)) (omega (arith, split)) ∙ ap pos (omega (arith, split)))
+                  (sub-is (l - q) (l - l′ - q) (omega arith) ∙ ap pos (omega arith))
                   ∙ bounded-goes h Founds.Ciphertext (h .factor * l′ - n′) l′ b₃);
               formed = on-ciphertext-formed (within 1 60 (l - l′ - q)) (kindAt (d₂ .lines) (d₂ .number)) (count-ok (l - l′ - q) e (omega arith)) (kind-at h (g₂ .stands));
             })
@@ -133,7 +138,7 @@ module _ (h : Header) (H : HeaderFacts h) where
   pub record Valid (r : ℤ) (l : ℕ) : Type 0 where
     pub whole : r ≡ pos (positive r)
     pub fits : positive r + h .waterline ≤ h .factor * l
-    pub least : floor h ≤ positive r
+    pub least : headroom h ≤ positive r
     pub top : l ≤ h .top
 
   -- its scale
@@ -150,10 +155,12 @@ module _ (h : Header) (H : HeaderFacts h) where
       → Sound h (d .lines) c ns → Stands h (d .lines) (d .number) (Founds.Ciphertext (scaleAt r l) l) Ciphertext o
       → Grown h 3 (d .lines) (bring h r l r′ l′ d .lines) c ns (bring h r l r′ l′ d .number) (Founds.Ciphertext (scaleAt r′ l′) l′) Ciphertext o
   bring-grown {c} {ns} {o} r l r′ l′ d v v′ e e′ S t = subst P distance
-      (three (positive r) (positive r′) l l′ (switches h (positive r - positive r′) (l - l′)) (v .fits) (v′ .fits) (v′ .least) e e′ (v .top) (omega arith) (count-fits (positive r - positive r′) (l - l′)) d S t)
+      (three (positive r) (positive r′) l l′ (switches h (positive r - positive r′) (l - l′)) (v .fits) (v′ .fits) (v′ .least) e e′ (v .top) (omega arith)
+      (count-fits (positive r - positive r′) (l - l′)) d S t)
     where
       P : ℕ → Type 0
-      P m = Grown h 3 (d .lines) (convert h m (l - l′) (switches h m (l - l′)) d .lines) c ns (convert h m (l - l′) (switches h m (l - l′)) d .number) (Founds.Ciphertext (scaleAt r′ l′) l′) Ciphertext o
+      P m = Grown h 3 (d .lines) (convert h m (l - l′) (switches h m (l - l′)) d .lines) c ns (convert h m (l - l′) (switches h m (l - l′)) d .number)
+          (Founds.Ciphertext (scaleAt r′ l′) l′) Ciphertext o
 
       distance : positive r - positive r′ ≡ positive (r -ℤ r′)
       distance = sym (ap positive (λ i. v .whole i -ℤ v′ .whole i) ∙ positive-sub (positive r) (positive r′))
@@ -196,7 +203,8 @@ module _ (h : Header) (H : HeaderFacts h) where
       (λ k. ap (λ (s : Step Found ℕ). andThen s (onBare (bounded h Founds.Encoded (pos (scaleFor h r l)) (pos l)))) (reads h t)
       ∙ ap (λ (s : ℕ). bounded h Founds.Encoded (pos s) (pos l)) scale ∙ bounded-goes h Founds.Encoded (scaleAt r l) l (valid-bounds v))
       (on-constant-formed (within 1 3600 (scaleFor h r l) && within 1 (h .top) l) (kindAt (d .lines) (d .number))
-      (and-both (within 1 3600 (scaleFor h r l)) (within 1 (h .top) l) (subst (λ (s : ℕ). T (within 1 3600 s)) (sym scale) (bits-ok (scaleAt r l) l (omega (arith, valid-bounds v .low, H .waterline .least)) (v .top) (omega arith)))
+      (and-both (within 1 3600 (scaleFor h r l)) (within 1 (h .top) l)
+      (subst (λ (s : ℕ). T (within 1 3600 s)) (sym scale) (bits-ok (scaleAt r l) l (omega (arith, valid-bounds v .low, H .waterline .least)) (v .top) (omega arith)))
       (within-passes 1 (h .top) l (record { least = level-some r l v; most = v .top })))
       (kind-at h t)))
     where

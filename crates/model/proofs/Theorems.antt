@@ -4,10 +4,11 @@ use native.Mathlib.Omega.{arith}
 use mathlib.Core.Path.{_≡_, refl, sym, ap, ap₂, _∙_, subst, subst₂}
 use mathlib.Core.Bool.{_||_}
 use mathlib.Core.List.{List, [], _∷_, _++_}
-use mathlib.Core.Option.{Option, none, some}
+use mathlib.Core.Option.{Option, none, some, Option·some-injective}
 use lib.Dec.{T}
 use lib.ListN.{length, getD, getElem?, take}
 use lib.IntN.{ℤ, pos}
+use lib.Signed.{_≤ℤ_}
 use Rattle.ints.specs.Parts.{positive}
 use Rattle.ints.proofs.Linear.{is-positive, sub-is}
 use Rattle.model.specs.declared.Header.{Header}
@@ -19,18 +20,23 @@ use Rattle.model.specs.declared.Kind.the-variants.{Ciphertext}
 use Rattle.model.specs.declared.Answer.{Answer}
 use Rattle.model.specs.declared.Answer.the-variants.{Done, Level, Refused}
 use Rattle.model.specs.Scales.{withTop, headerInRange, reserve}
-use Rattle.model.specs.Files.{File, placeOf, wellFormed, kindOf, kindAt, isCiphertext, isEncoded, isUsable, lineFormed, linesFormed}
+use Rattle.rows.specs.Rows.{placeOf}
+use Rattle.model.specs.Files.{File, wellFormed, kindOf, kindAt, isCiphertext, isEncoded, isUsable, lineFormed, linesFormed}
 use Rattle.model.specs.Machine.{Run, finished, stopped, run}
 use Rattle.model.specs.Rules.{KeepsRules}
+use Rattle.model.specs.declared.Choice.{Choice}
 use Rattle.model.specs.declared.Best.{Best}
 use Rattle.model.specs.declared.Best.the-variants as Bests
-use Rattle.model.specs.Plan.{bestMachine, placeProduct, planLines}
-use Rattle.model.specs.Services.{origins, Planned, written, refused, plan, leastLevel}
+use Rattle.model.specs.Plan.{bestMachine, productChoice, planLines}
+use Rattle.model.specs.Services.{erase, keptLines, Planned, scheduled, unplanned, plan, leastLevel}
+use Rattle.model.proofs.Statements.Erasing.{origins}
 use Rattle.model.specs.Refused as Refused
 use Rattle.model.specs.declared.Found.{Found}
 use Rattle.model.specs.declared.Found.the-variants as Founds
 use Rattle.model.specs.Refused.{checkMachine, rulesAnswer}
-use Rattle.model.specs.Demands.{Passed, Schedulable, IsLeastLevel}
+use Rattle.model.specs.Demands.{Schedulable, reserveAt}
+use Rattle.model.proofs.Statements.Check.{PassedFiles}
+use Rattle.model.proofs.Statements.LeastLevel.{IsLeastLevel}
 use Rattle.model.proofs.Statements.LowestLevel as LowestLevel
 use Rattle.model.proofs.Statements.Products as ProductStatement
 use Rattle.model.proofs.Statements.Verdict as Verdict
@@ -43,21 +49,24 @@ use Rattle.model.proofs.Statements.Exactness as Exactness
 use Rattle.model.proofs.Statements.ScaleMachine as ScaleMachine
 use Rattle.model.proofs.Statements.ReserveBound as ReserveBound
 use Rattle.model.proofs.Statements.ThePlan as ThePlan
+use Rattle.model.proofs.Statements.BestReserve as BestReserve
 use Rattle.model.proofs.Statements.TooFewLevels as TooFewLevels
 use Rattle.model.proofs.Statements.HigherLevels as HigherLevels
 use Rattle.model.proofs.Statements.LeastLevel as LeastLevel
 use Rattle.model.proofs.Tests.{and-first, and-second, and-both, is-ciphertext, HeaderFacts, header-facts, header-passes}
 use Rattle.model.proofs.Lists.{found-at, found-is}
-use Rattle.model.proofs.Runs.{stopped-finished, first-stop}
-use Rattle.model.proofs.Floor.{floor-is}
+use Rattle.model.proofs.Runs.{stopped-finished, finished-is, first-stop}
+use Rattle.model.proofs.Headroom.{headroom-is}
 use Rattle.model.proofs.Levels.{level-fits, level-least}
 use Rattle.model.proofs.Products.{optimal}
 use Rattle.model.proofs.Reserves.{Bound, AtBest, AllBest, reserve-bound}
 use Rattle.model.proofs.Higher.{fits-higher}
-use Rattle.model.proofs.Formed.{well-header, well-lines, well-take}
+use Rattle.model.proofs.Formed.{usable-below, well-header, well-lines, well-take}
 use Rattle.model.proofs.Checked.{checked-keeps, keeps-checked, keeps-agrees, verdict, Agrees, foundKind, scaleOf, levelOf}
 use Rattle.model.proofs.Reason.{only-six, only-rules}
+use Rattle.model.proofs.Broken.{refused-says}
 use Rattle.model.proofs.Compared.{judges}
+use Rattle.model.proofs.KeptLines.{renamed-kind}
 use Rattle.model.proofs.Exactly.{exact}
 use Rattle.model.proofs.Erasure.{erasure}
 use Rattle.model.proofs.ScaleRuns.{is-the-rules}
@@ -75,7 +84,7 @@ lowest-level h t r =
 
 pub products : ProductStatement.Statement
 products h t r r′ a b =
-    subst₂ (λ (x y : ℤ). ProductStatement.IsOptimum h x y (placeProduct h x y)) (sym (is-positive r a)) (sym (is-positive r′ b))
+    subst₂ (λ (x y : ℤ). ProductStatement.IsOptimum h x y (productChoice h x y)) (sym (is-positive r a)) (sym (is-positive r′ b))
     (let H = header-facts h t in
     let o = optimal h (H .factor .least) (H .waterline .least) (positive r) (positive r′) in
     record { attained = o .attained; greatest = o .greatest; lowest = o .lowest; first-is = o .first-is; second-is = o .second-is })
@@ -101,18 +110,21 @@ first-broken h s t n p e = refused-run h s n p e (λ i q r.
     let f = first-stop (checkMachine h) s i n r in
     let w = only-rules h s t i n r in
     record {
-      line = i;
-      place-is = q;
-      below = f .below;
-      before = checked-keeps h (take i s) (well-header Schedule h s t) (f .before);
-      with-it = λ k. let c = keeps-checked h (take (suc i) s) (well-take Schedule h s (suc i) t) k in stopped-finished (sym (f .with-it) ∙ c .1);
+      broken = record {
+        line = i;
+        place-is = q;
+        below = f .below;
+        before = checked-keeps h (take i s) (well-header Schedule h s t) (f .before);
+        with-it = λ k. let c = keeps-checked h (take (suc i) s) (well-take Schedule h s (suc i) t) k in stopped-finished (sym (f .with-it) ∙ c .1);
+        number-is = refused-says h s t i n r;
+      };
       least = w .least;
       most = w .most;
     })
 
 pub bounds-are : BoundsStatement.Statement
 bounds-are h s l =
-    (λ b. (b .low, omega (arith, b .high, floor-is h)), λ b. record { low = b .0; high = omega (arith, b .1, floor-is h) })
+    (λ b. (b .low, omega (arith, b .high, headroom-is h)), λ b. record { low = b .0; high = omega (arith, b .1, headroom-is h) })
 
 pub checks : Check.Statement
 checks = judges
@@ -174,9 +186,10 @@ bound h circuit s t K e =
     B : AllBest h (H .factor .least) (H .waterline .least) s (F .0)
     B = reserve-bound h (H .factor .least) (H .waterline .least) s (F .1)
 
-    by-value : (i : ℕ) (b : Best) → Bound h (Founds.Ciphertext (K .scale i) (K .level i)) b tt → (from : ℕ) → getElem? (origins s) i ≡ some from → getElem? (B .best) from ≡ some b → ReserveBound.AtMostBest h s K (B .best) i
+    by-value : (i : ℕ) (b : Best) → Bound h (Founds.Ciphertext (K .scale i) (K .level i)) b tt → (from : ℕ) → getElem? (origins s) i ≡ some from → getElem? (B .best) from ≡ some b
+        → ReserveBound.AtMostBest h s K (B .best) i
     by-value i Bests.Constant w from p q = absurd w
-    by-value i (Bests.Ciphertext p) w from q r = record { from = from; placement = p; comes-from = q; best-is = r; at-most = w .at-most }
+    by-value i (Bests.Ciphertext p) w from q r = record { from = from; choice = p; comes-from = q; best-is = r; at-most = w .at-most }
 
     at-most : (i : ℕ) → AtBest h (H .factor .least) (H .waterline .least) s (B .best) i (Founds.Ciphertext (K .scale i) (K .level i)) → ReserveBound.AtMostBest h s K (B .best) i
     at-most i a = by-value i (a .value) (a .bound) (a .from) (a .comes-from) (a .best-is)
@@ -184,8 +197,15 @@ bound h circuit s t K e =
 -- ---- the plan
 -- what planning gives, by the run of the best reserves
 plan-is : (circuit : File) (r : Run Best ℕ) → run (bestMachine (circuit .header)) (circuit .lines) ≡ r
-    → plan circuit ≡ elim r [ finished best ↦ written (record { header = circuit .header; lines = planLines (circuit .header) best (circuit .lines) }) | stopped i n ↦ refused n (placeOf i) ]
-plan-is circuit r e = ap (λ (q : Run Best ℕ). elim q as (λ x. Planned) [ finished best ↦ written (record { header = circuit .header; lines = planLines (circuit .header) best (circuit .lines) }) | stopped i n ↦ refused n (placeOf i) ]) e
+    → plan circuit ≡ elim r
+    [ finished best ↦ scheduled (record { header = circuit .header; lines = planLines (circuit .header) best (circuit .lines) }) | stopped i n ↦ unplanned n (placeOf i) ]
+plan-is circuit r e =
+    ap (λ (q : Run Best ℕ). elim q as
+    (λ x. Planned) [
+      | finished best ↦ scheduled (record { header = circuit .header; lines = planLines (circuit .header) best (circuit .lines) })
+      | stopped i n ↦ unplanned n
+          (placeOf i)
+    ]) e
 
 module _ (circuit : File) (t : T (wellFormed Circuit (circuit .header) (circuit .lines))) where
   abbrev h : Header
@@ -210,7 +230,7 @@ module _ (circuit : File) (t : T (wellFormed Circuit (circuit .header) (circuit 
     keeps : KeepsRules h s
     keeps = checked-keeps h s (well-header Circuit h (circuit .lines) t) (P .sound .checks)
 
-    pub plan-passed : Passed circuit (record { header = circuit .header; lines = s })
+    pub plan-passed : PassedFiles circuit (record { header = circuit .header; lines = s })
     plan-passed = record { circuit-formed = t; schedule-formed = formed; keeps = keeps; erases = λ i. record { header = circuit .header; lines = P .sound .erases i } }
 
     pub plan-schedulable : Schedulable h (circuit .lines)
@@ -244,7 +264,7 @@ module _ (circuit : File) (t : T (wellFormed Circuit (circuit .header) (circuit 
         by-value (Bests.Ciphertext p) q =
             record {
               line = i;
-              placement = p;
+              choice = p;
               kept = ap (λ (l : List ℕ). getElem? l j) (P .sound .kept-are) ∙ found-at (whole .numbers) j 0 (omega (arith, P .counted));
               best-is = q;
               reserve-is = ap₂ (reserve h) (sym (numbers .0)) (sym (numbers .1)) ∙ scale-leaves (p .reserve) (p .level) (P .valid j (Bests.Ciphertext p) q);
@@ -264,10 +284,18 @@ module _ (circuit : File) (t : T (wellFormed Circuit (circuit .header) (circuit 
             numbers = (cc both, cc both)
 
     right : ThePlan.IsRight circuit (record { header = circuit .header; lines = s })
-    right = record { passed = plan-passed; checked = judges circuit (record { header = circuit .header; lines = s }) t formed .passes .1 plan-passed; few = λ u. omega (arith, P .few); best = best; runs = e; attains = attains }
+    right = record {
+      passed = plan-passed;
+      checked = judges circuit (record { header = circuit .header; lines = s }) t formed .passes .1 plan-passed;
+      few =
+          λ u. omega (arith, P .few);
+      best = best;
+      runs = e;
+      attains = attains;
+    }
 
 -- a refusal is no schedule
-refused-written : {P : Type 0} (n p : ℕ) (f : File) → _≡_ {A = Planned} (refused n p) (written f) → P
+refused-written : {P : Type 0} (n p : ℕ) (f : File) → _≡_ {A = Planned} (unplanned n p) (scheduled f) → P
 refused-written n p f e = absurd (let z : _≡_ {A = ℕ} 0 1 = cc in omega arith)
 
 pub the-plan : ThePlan.Statement
@@ -276,9 +304,59 @@ the-plan circuit t schedule e = go (run (bestMachine (circuit .header)) (circuit
     go : (r : Run Best ℕ) → run (bestMachine (circuit .header)) (circuit .lines) ≡ r → ThePlan.IsRight circuit schedule
     go (finished best) q = subst (ThePlan.IsRight circuit) (same (sym (plan-is circuit (finished best) q) ∙ e)) (right circuit t best q)
       where
-        same : written (record { header = circuit .header; lines = planLines (circuit .header) best (circuit .lines) }) ≡ written schedule → record { header = circuit .header; lines = planLines (circuit .header) best (circuit .lines) } ≡ schedule
+        same : scheduled (record { header = circuit .header; lines = planLines (circuit .header) best (circuit .lines) }) ≡ scheduled schedule
+            → record { header = circuit .header; lines = planLines (circuit .header) best (circuit .lines) } ≡ schedule
         same p = cc
     go (stopped i n) q = refused-written n (placeOf i) schedule (sym (plan-is circuit (stopped i n) q) ∙ e)
+
+-- ---- the best reserve
+pub best-reserve : BestReserve.Statement
+best-reserve circuit t schedule e K other j c =
+    subst₂ _≤ℤ_ (at (other .keeps) (I .there)) (ap (λ (p : Choice). p .reserve) same ∙ sym (A .reserve-is) ∙ at K (A .kept)) (L .at-most)
+  where
+    h : Header
+    h = circuit .header
+
+    kind : kindAt (circuit .lines) j ≡ Ciphertext
+    kind = is-ciphertext (kindAt (circuit .lines) j) c
+
+    below : j < length (circuit .lines)
+    below = usable-below (circuit .lines) j (usable-ciphertext (kindAt (circuit .lines) j) kind)
+
+    right : ThePlan.IsRight circuit schedule
+    right = the-plan circuit t schedule e
+
+    A : ThePlan.AttainsBest schedule K (right .best) j
+    A = right .attains K j below c
+
+    -- the kept line of the other schedule comes from line j, and is a ciphertext
+    I : ErasingStatement.IsKeptLine (other .schedule) j
+    I = erasing h (other .schedule) (other .formed) .lines j (subst (λ (l : List Line). j < length l) (sym (other .erases)) below)
+
+    line-kind : kindOf (getD (other .schedule) (I .line) Free) ≡ kindAt (circuit .lines) j
+    line-kind =
+        sym (renamed-kind (λ a. getD (origins (other .schedule)) a 0) (getD (other .schedule) (I .line) Free))
+        ∙ ap kindOf (sym (found-is (erase (other .schedule)) j Free (I .written))) ∙ ap (λ (l : List Line). kindAt l j) (other .erases)
+
+    B : ReserveBound.Bounded h (circuit .lines) (other .schedule) (other .keeps)
+    B = bound h (circuit .lines) (other .schedule) (other .formed) (other .keeps) (other .erases)
+
+    L : ReserveBound.AtMostBest h (other .schedule) (other .keeps) (B .best) (I .line)
+    L = B .lines (I .line) (I .below) (subst (λ (k : Kind). T (isCiphertext k)) (sym line-kind) c)
+
+    same : L .choice ≡ A .choice
+    same = choice (L .best-is) (Option·some-injective (L .from) j (sym (L .comes-from) ∙ I .origin)) (A .best-is) (finished-is (sym (B .runs) ∙ right .runs))
+      where
+        choice : {best best′ : List Best} {i : ℕ} {p q : Choice} → getElem? best i ≡ some (Bests.Ciphertext p) → i ≡ j
+            → getElem? best′ j ≡ some (Bests.Ciphertext q) → best ≡ best′ → p ≡ q
+        choice {best} {best′} {i} {p} {q} u v w x = is (Option·some-injective (Bests.Ciphertext p) (Bests.Ciphertext q) (sym u ∙ ap₂ getElem? x v ∙ w))
+          where
+            is : Bests.Ciphertext p ≡ Bests.Ciphertext q → p ≡ q
+            is y = cc
+
+    -- the reserve at a kept line
+    at : {k : Header} {s : List Line} (M : KeepsRules k s) {i : ℕ} → getElem? (keptLines s) j ≡ some i → reserve k (M .scale i) (M .level i) ≡ reserveAt M j
+    at {k} {s} M f = ap (λ (i : ℕ). reserve k (M .scale i) (M .level i)) (sym (found-is (keptLines s) j 0 f))
 
 -- ---- too few levels
 -- a circuit with a schedule has a best reserve at every line
@@ -301,7 +379,8 @@ too-few-levels circuit t =
           (λ i n e. first (w .place) i n (refused-place (sym (w .says) ∙ plan-is circuit (stopped i n) e)) e);
       too-few-if = λ f. by-run R (TooFewLevels.SaysTooFew circuit) (λ best e. absurd (f (plan-schedulable circuit t best e))) (λ i n e. says i n e (only-six h c t i n e));
       writes-if = λ S. let b = schedulable-fits h c S in record { schedule = _; writes = plan-is circuit (finished (b .0)) (b .1) };
-      writes-only = λ w. by-run R (Schedulable h c) (λ best e. plan-schedulable circuit t best e) (λ i n e. refused-written n (placeOf i) (w .schedule) (sym (plan-is circuit (stopped i n) e) ∙ w .writes));
+      writes-only = λ w. by-run R (Schedulable h c) (λ best e. plan-schedulable circuit t best e)
+          (λ i n e. refused-written n (placeOf i) (w .schedule) (sym (plan-is circuit (stopped i n) e) ∙ w .writes));
       only-six = λ n p e. by-run R (n ≡ 6) (λ best f. refused-written n p _ (sym e ∙ plan-is circuit (finished best) f))
           (λ i m f. number (sym e ∙ plan-is circuit (stopped i m) f) ∙ only-six h c t i m f);
     }
@@ -316,12 +395,12 @@ too-few-levels circuit t =
     R = run (bestMachine (circuit .header)) (circuit .lines)
 
     says : (i n : ℕ) → R ≡ stopped i n → n ≡ 6 → TooFewLevels.SaysTooFew circuit
-    says i n e s = record { place = placeOf i; says = plan-is circuit (stopped i n) e ∙ ap (λ (m : ℕ). refused m (placeOf i)) s }
+    says i n e s = record { place = placeOf i; says = plan-is circuit (stopped i n) e ∙ ap (λ (m : ℕ). unplanned m (placeOf i)) s }
 
-    number : {n p m q : ℕ} → refused n p ≡ refused m q → n ≡ m
+    number : {n p m q : ℕ} → unplanned n p ≡ unplanned m q → n ≡ m
     number e = cc
 
-    refused-place : {n p m q : ℕ} → refused n p ≡ refused m q → p ≡ q
+    refused-place : {n p m q : ℕ} → unplanned n p ≡ unplanned m q → p ≡ q
     refused-place e = cc
 
     first : (p i n : ℕ) → p ≡ placeOf i → R ≡ stopped i n → TooFewLevels.FirstTooFew circuit p
@@ -331,7 +410,8 @@ too-few-levels circuit t =
           line = i;
           place-is = q;
           below = f .below;
-          before = plan-schedulable (record { header = circuit .header; lines = take i (circuit .lines) }) (well-take Circuit (circuit .header) (circuit .lines) i t) (f .after) (f .before);
+          before = plan-schedulable (record { header = circuit .header; lines = take i (circuit .lines) }) (well-take Circuit (circuit .header) (circuit .lines) i t) (f .after)
+              (f .before);
           with-it = λ S. let b = schedulable-fits (circuit .header) (take (suc i) (circuit .lines)) S in stopped-finished (sym (f .with-it) ∙ b .1);
         }
 
@@ -361,13 +441,15 @@ lines-at-top h l (x ∷ xs) before t =
 pub formed-at-top : (h : Header) (c : List Line) → T (wellFormed Circuit h c) → (l : ℕ) → 1 ≤ l → l ≤ 60 → T (wellFormed Circuit (withTop h l) c)
 formed-at-top h c t l a b =
     let H = header-facts h (well-header Circuit h c t) in
-    and-both (headerInRange (withTop h l)) (linesFormed Circuit (withTop h l) [] c) (header-passes (withTop h l) (record { factor = H .factor; waterline = H .waterline; top = record { least = a; most = b } }))
+    and-both (headerInRange (withTop h l)) (linesFormed Circuit (withTop h l) [] c)
+    (header-passes (withTop h l) (record { factor = H .factor; waterline = H .waterline; top = record { least = a; most = b } }))
     (lines-at-top h l c [] (well-lines Circuit h c t))
 
 at-top : (h : Header) (c : List Line) → ℕ → File
 at-top h c l = record { header = withTop h l; lines = c }
 
-fits-schedulable : (h : Header) (c : List Line) → T (wellFormed Circuit h c) → (l : ℕ) → 1 ≤ l → l ≤ 60 → (best : List Best) → run (bestMachine (withTop h l)) c ≡ finished best → Schedulable (withTop h l) c
+fits-schedulable : (h : Header) (c : List Line) → T (wellFormed Circuit h c) → (l : ℕ) → 1 ≤ l → l ≤ 60 → (best : List Best) → run (bestMachine (withTop h l)) c ≡ finished best
+    → Schedulable (withTop h l) c
 fits-schedulable h c t l a b best e = plan-schedulable (record { header = withTop h l; lines = c }) (formed-at-top h c t l a b) best e
 
 pub higher-levels : HigherLevels.Statement
@@ -416,13 +498,16 @@ least-level circuit t =
         record {
           six = only-six (withTop (circuit .header) 60) (circuit .lines) sixty (f .line) n (f .runs);
           no-schedule = stops-there 60 (record { line = f .line; number = n; runs = f .runs });
-          as-planned = plan-is (LeastLevel.atSixty circuit) (stopped (f .line) n) (f .runs) ∙ ap (refused n) (sym (f .place-is));
+          as-planned = plan-is (LeastLevel.atSixty circuit) (stopped (f .line) n) (f .runs) ∙ ap (unplanned n) (sym (f .place-is));
         }
 
     -- a level that fits would fit at 60
-    by-answer : (Schedulable (withTop (circuit .header) 60) (circuit .lines) → ⊥) → (a : Answer) → leastLevel circuit ≡ a → Says (circuit .header) (circuit .lines) a → LeastLevel.Refuses circuit
+    by-answer : (Schedulable (withTop (circuit .header) 60) (circuit .lines) → ⊥) → (a : Answer) → leastLevel circuit ≡ a → Says (circuit .header) (circuit .lines) a
+        → LeastLevel.Refuses circuit
     by-answer f Done e s = absurd s
-    by-answer f (Level l) e s = absurd (f (higher-levels (withTop (circuit .header) l) (circuit .lines) (formed-at-top (circuit .header) (circuit .lines) t l (s .low) (s .high)) 60 (s .high) (omega arith) (found l s .fits)))
+    by-answer f (Level l) e s =
+        absurd (f (higher-levels (withTop (circuit .header) l) (circuit .lines) (formed-at-top (circuit .header) (circuit .lines) t l (s .low) (s .high)) 60 (s .high) (omega arith)
+        (found l s .fits)))
     by-answer f (Refused n p) e s = record { place = p; says = e ∙ ap (λ (m : ℕ). Refused m p) (none n p s .six) }
 
 -- ---- demand 3 as one claim

@@ -1,11 +1,15 @@
 -- Document 01, "The two files": operands, kinds, ranges, and which lists of lines are circuits and schedules. The words stand in Words.
 -- A file is its header and the list of its lines; its text is another layer's.
-use Prim.Native.Nat.{ℕ, _+_}
+use Prim.Native.Nat.{ℕ}
 use mathlib.Core.Bool.{Bool, true, false, _&&_, _||_}
-use mathlib.Core.List.{List, [], _∷_, _++_}
-use mathlib.Core.Path.{_≡_}
-use lib.Dec.{T, leb}
-use lib.ListN.{length, getD, take}
+use mathlib.Core.List.{List, [], _∷_, _++_, map}
+use lib.IntN.{ℤ, pos}
+use lib.ListN.{getD}
+use Rattle.ints.specs.Parts.{positive}
+use Rattle.rows.specs.Fields.{allInRange}
+use Rattle.rows.specs.Forms.{Said, saying}
+use Rattle.rows.specs.Rows as Rows
+use Rattle.rows.specs.Rows.{Tests}
 use Rattle.model.specs.declared.Header.{Header}
 use Rattle.model.specs.declared.Line.{Line}
 use Rattle.model.specs.declared.Line.the-variants.{In, Const, Neg, Rot, Add, Mul, Out, Enc, Rs, Ms, Us, Free}
@@ -13,48 +17,56 @@ use Rattle.model.specs.declared.Grammar.{Grammar}
 use Rattle.model.specs.declared.Grammar.the-variants.{Circuit, Schedule}
 use Rattle.model.specs.declared.Kind.{Kind}
 use Rattle.model.specs.declared.Kind.the-variants.{Ciphertext, Constant, Encoded, Nothing}
-use Rattle.model.specs.declared.Word as W
+use Rattle.model.specs.declared.Word as Words
 use Rattle.model.specs.declared.Word.{Word}
 use Rattle.model.specs.Scales.{headerInRange}
-use Rattle.model.specs.Words.{Given, natural, signed, entry, hasWord, fieldsInRange, operandsAmong}
-
--- "A value number counts the lines after the header from 0. A place counts all text lines from 1, so value n stands at place n + 2."
-abbrev pub placeOf : ℕ → ℕ
-placeOf n = n + 2
+use Rattle.model.specs.Words.{Entry, Asks, noOperand, aCiphertext, aConstant, aPair, entry, hasWord, operandsAmong}
 
 -- "at most 256 lines", "at most 1,792 lines"
 abbrev pub limit : Grammar → ℕ
 limit Circuit = 256
 limit Schedule = 1792
 
--- A line's word, and what stands in the fields after it.
-abbrev pub wordOf : Line → Word
-wordOf In = W.the-variants.In
-wordOf (Const k) = W.the-variants.Const
-wordOf (Neg a) = W.the-variants.Neg
-wordOf (Rot a t) = W.the-variants.Rot
-wordOf (Add a b) = W.the-variants.Add
-wordOf (Mul a b) = W.the-variants.Mul
-wordOf (Out a) = W.the-variants.Out
-wordOf (Enc a s e) = W.the-variants.Enc
-wordOf (Rs a c) = W.the-variants.Rs
-wordOf (Ms a c) = W.the-variants.Ms
-wordOf (Us a b) = W.the-variants.Us
-wordOf Free = W.the-variants.NoWord
+-- A line's word and the numbers in the fields after it.
+abbrev pub said : Line → Said Word
+said In = saying Words.the-variants.In []
+said (Const k) = saying Words.the-variants.Const (pos k ∷ [])
+said (Neg a) = saying Words.the-variants.Neg (pos a ∷ [])
+said (Rot a t) = saying Words.the-variants.Rot (pos a ∷ t ∷ [])
+said (Add a b) = saying Words.the-variants.Add (pos a ∷ pos b ∷ [])
+said (Mul a b) = saying Words.the-variants.Mul (pos a ∷ pos b ∷ [])
+said (Out a) = saying Words.the-variants.Out (pos a ∷ [])
+said (Enc a s e) = saying Words.the-variants.Enc (pos a ∷ pos s ∷ pos e ∷ [])
+said (Rs a c) = saying Words.the-variants.Rs (pos a ∷ pos c ∷ [])
+said (Ms a c) = saying Words.the-variants.Ms (pos a ∷ pos c ∷ [])
+said (Us a b) = saying Words.the-variants.Us (pos a ∷ pos b ∷ [])
+said Free = saying Words.the-variants.NoWord []
 
-abbrev pub given : Line → List Given
-given In = []
-given (Const k) = natural k ∷ []
-given (Neg a) = natural a ∷ []
-given (Rot a t) = natural a ∷ signed t ∷ []
-given (Add a b) = natural a ∷ natural b ∷ []
-given (Mul a b) = natural a ∷ natural b ∷ []
-given (Out a) = natural a ∷ []
-given (Enc a s e) = natural a ∷ natural s ∷ natural e ∷ []
-given (Rs a c) = natural a ∷ natural c ∷ []
-given (Ms a c) = natural a ∷ natural c ∷ []
-given (Us a b) = natural a ∷ natural b ∷ []
-given Free = []
+-- The line of a word and its numbers. A number that is missing is 0, and one that has a sign where there is none is cut off; no reading
+-- meets either.
+abbrev pub nth : List ℤ → ℕ → ℕ
+nth ns i = positive (getD ns i (pos 0))
+
+abbrev pub lineOf : Word → List ℤ → Line
+lineOf Words.the-variants.In ns = In
+lineOf Words.the-variants.Const ns = Const (nth ns 0)
+lineOf Words.the-variants.Neg ns = Neg (nth ns 0)
+lineOf Words.the-variants.Rot ns = Rot (nth ns 0) (getD ns 1 (pos 0))
+lineOf Words.the-variants.Add ns = Add (nth ns 0) (nth ns 1)
+lineOf Words.the-variants.Mul ns = Mul (nth ns 0) (nth ns 1)
+lineOf Words.the-variants.Out ns = Out (nth ns 0)
+lineOf Words.the-variants.Enc ns = Enc (nth ns 0) (nth ns 1) (nth ns 2)
+lineOf Words.the-variants.Rs ns = Rs (nth ns 0) (nth ns 1)
+lineOf Words.the-variants.Ms ns = Ms (nth ns 0) (nth ns 1)
+lineOf Words.the-variants.Us ns = Us (nth ns 0) (nth ns 1)
+lineOf Words.the-variants.NoWord ns = Free
+
+-- ---- what is read off the word's row
+abbrev pub wordOf : Line → Word
+wordOf x = said x .word
+
+abbrev pub rowOf : Line → Entry
+rowOf x = entry (wordOf x)
 
 -- "Circuit: header … then … lines", "Schedule: … those above and …": the word is one of the file's.
 abbrev pub isWord : Grammar → Line → Bool
@@ -66,27 +78,17 @@ isCircuitWord x = isWord Circuit x
 
 -- The value numbers that a line names, in their order.
 abbrev pub operands : Line → List ℕ
-operands x = operandsAmong (entry (wordOf x) .fields) (given x)
+operands x = operandsAmong (rowOf x .fields) (said x .numbers)
 
 -- Each number of a line but its operands is in its range.
-abbrev pub inRange : Grammar → Header → Line → Bool
-inRange g h x = fieldsInRange g h (entry (wordOf x) .fields) (given x)
+abbrev pub inRange : Header → Line → Bool
+inRange h x = allInRange (h .top) (rowOf x .fields) (said x .numbers)
 
 -- What a line can be used as: its word alone decides.
 abbrev pub kindOf : Line → Kind
-kindOf In = Ciphertext
-kindOf (Const k) = Constant
-kindOf (Neg a) = Ciphertext
-kindOf (Rot a t) = Ciphertext
-kindOf (Add a b) = Ciphertext
-kindOf (Mul a b) = Ciphertext
-kindOf (Out a) = Nothing
-kindOf (Enc a s e) = Encoded
-kindOf (Rs a c) = Ciphertext
-kindOf (Ms a c) = Ciphertext
-kindOf (Us a b) = Ciphertext
-kindOf Free = Nothing
+kindOf x = rowOf x .kind
 
+-- ---- kinds
 -- The kind of value a among the lines before; past them there is nothing.
 abbrev pub kindAt : List Line → ℕ → Kind
 kindAt before a = kindOf (getD before a Free)
@@ -130,25 +132,32 @@ abbrev pub isPair : Grammar → Kind → Kind → Bool
 isPair g j k =
     (isCiphertext j && (isCiphertext k || isPlaintext g k)) || (isPlaintext g j && isCiphertext k)
 
--- "Kinds: `neg`, `rot`, `out`, `rs`, `ms`, `us` take a ciphertext and `enc` a constant."
-abbrev pub kindsFit : Grammar → List Line → Line → Bool
-kindsFit g before In = true
-kindsFit g before (Const k) = true
-kindsFit g before (Neg a) = isCiphertext (kindAt before a)
-kindsFit g before (Rot a t) = isCiphertext (kindAt before a)
-kindsFit g before (Add a b) = isPair g (kindAt before a) (kindAt before b)
-kindsFit g before (Mul a b) = isPair g (kindAt before a) (kindAt before b)
-kindsFit g before (Out a) = isCiphertext (kindAt before a)
-kindsFit g before (Enc a s e) = isConstant (kindAt before a)
-kindsFit g before (Rs a c) = isCiphertext (kindAt before a)
-kindsFit g before (Ms a c) = isCiphertext (kindAt before a)
-kindsFit g before (Us a b) = isCiphertext (kindAt before a)
-kindsFit g before Free = true
+-- what is asked of the kinds of the first and of the second operand
+abbrev pub asksFor : Grammar → Asks → Kind → Kind → Bool
+asksFor g noOperand j k = true
+asksFor g aCiphertext j k = isCiphertext j
+asksFor g aConstant j k = isConstant j
+asksFor g aPair j k = isPair g j k
 
--- One line, after the lines before it: its word, its ranges, its operands, their kinds.
+abbrev pub kindsFit : Grammar → List Line → Line → Bool
+kindsFit g before x =
+    let kinds = map (kindAt before) (operands x) in
+    asksFor g (rowOf x .asks) (getD kinds 0 Nothing) (getD kinds 1 Nothing)
+
+-- ---- files
+-- One line after the lines before it, "per line … 1, … 11, 4, 5": its word, its ranges, its operands, their kinds.
+abbrev pub lineTests : Grammar → Header → List Line → Line → Tests
+lineTests g h before x =
+    (1, isWord g x) ∷ (11, inRange h x) ∷ (4, everyUsable before (operands x)) ∷ (5, kindsFit g before x) ∷ []
+
+-- every test is passed; after the last one nothing is added
+abbrev pub allPass : Tests → Bool
+allPass [] = true
+allPass ((n, passes) ∷ []) = passes
+allPass ((n, passes) ∷ t ∷ ts) = passes && allPass (t ∷ ts)
+
 abbrev pub lineFormed : Grammar → Header → List Line → Line → Bool
-lineFormed g h before x =
-    isWord g x && (inRange g h x && (everyUsable before (operands x) && kindsFit g before x))
+lineFormed g h before x = allPass (lineTests g h before x)
 
 -- The lines of a file of that grammar, after the lines before them. The limit on their number is a condition of its own.
 abbrev pub linesFormed : Grammar → Header → List Line → List Line → Bool
@@ -160,22 +169,5 @@ abbrev pub wellFormed : Grammar → Header → List Line → Bool
 wellFormed g h lines = headerInRange h && linesFormed g h [] lines
 
 -- A file: its header's numbers and its lines.
-pub record File : Type 0 where
-  pub header : Header
-  pub lines : List Line
-
--- "a table of 1,792 line records": a file that was read, with its lines in the first `count` records. A record that is free holds the line Free.
-pub record Table : Type 0 where
-  pub header : Header
-  pub lines : List Line
-  pub count : ℕ
-
-abbrev pub tableLines : Table → List Line
-tableLines t = take (t .count) (t .lines)
-
--- A table that holds a file of the grammar: no more lines than allowed, all else free.
-pub record TableFormed (g : Grammar) (t : Table) : Type 0 where
-  pub few : T (leb (t .count) (limit g))
-  pub room : length (t .lines) ≡ 1792
-  pub lines : T (wellFormed g (t .header) (tableLines t))
-  pub rest : (i : ℕ) → T (leb (t .count) i) → getD (t .lines) i Free ≡ Free
+abbrev pub File : Type 0
+File = Rows.File Header Line

@@ -9,5 +9,6 @@ pub mod Machines
 pub mod Plan
 pub mod Services
 pub mod Refused
+pub mod Broken
 pub mod Demands
 pub mod Worked

@@ -1,10 +1,14 @@
 -- A machine on a file's lines: the check of the rules, document 01's two machines and the best reserve are each one.
 -- "take a file's lines in order, starting with nothing held, and keep what each line holds."
 use Prim.Native.Nat.{ℕ, suc}
+use mathlib.Core.Bool.{cond}
 use mathlib.Core.List.{List, [], _∷_, _++_}
 use mathlib.Core.Option.{Option, none, some}
 use lib.ListN.{length, getElem?}
 use lib.IntN.{ℤ}
+use Rattle.model.specs.declared.Word as Words
+use Rattle.model.specs.Words.{sameWord}
+use Rattle.model.specs.Files.{wordOf}
 use Rattle.model.specs.declared.Line.{Line}
 use Rattle.model.specs.declared.Line.the-variants.{In, Const, Neg, Rot, Add, Mul, Out, Enc, Rs, Ms, Us, Free}
 
@@ -46,38 +50,27 @@ module _ {X E : Type 0} where
   orAbsent e (some x) = goes x
 
   -- what the line that an operand names holds
-  abbrev pub operand : Machine X E → List X → ℕ → Step X E
-  operand M held a = orAbsent (M .absent) (getElem? held a)
+  abbrev pub heldBy : Machine X E → List X → ℕ → Step X E
+  heldBy M held a = orAbsent (M .absent) (getElem? held a)
 
   -- one line, where `ins` counts the `in` lines before it and `held` is what the lines before it hold
   abbrev pub step : Machine X E → ℕ → List X → Line → Step X E
   step M ins held In = M .input ins
   step M ins held (Const k) = M .constant k
-  step M ins held (Neg a) = andThen (operand M held a) (M .neg)
-  step M ins held (Rot a t) = andThen (operand M held a) (λ x. M .rot x t)
-  step M ins held (Add a b) = andThen (operand M held a) (λ x. andThen (operand M held b) (M .add x))
-  step M ins held (Mul a b) = andThen (operand M held a) (λ x. andThen (operand M held b) (M .mul x))
-  step M ins held (Out a) = andThen (operand M held a) (M .out)
-  step M ins held (Enc a s e) = andThen (operand M held a) (λ x. M .enc x s e)
-  step M ins held (Rs a c) = andThen (operand M held a) (λ x. M .rs x c)
-  step M ins held (Ms a c) = andThen (operand M held a) (λ x. M .ms x c)
-  step M ins held (Us a b) = andThen (operand M held a) (λ x. M .us x b)
+  step M ins held (Neg a) = andThen (heldBy M held a) (M .neg)
+  step M ins held (Rot a t) = andThen (heldBy M held a) (λ x. M .rot x t)
+  step M ins held (Add a b) = andThen (heldBy M held a) (λ x. andThen (heldBy M held b) (M .add x))
+  step M ins held (Mul a b) = andThen (heldBy M held a) (λ x. andThen (heldBy M held b) (M .mul x))
+  step M ins held (Out a) = andThen (heldBy M held a) (M .out)
+  step M ins held (Enc a s e) = andThen (heldBy M held a) (λ x. M .enc x s e)
+  step M ins held (Rs a c) = andThen (heldBy M held a) (λ x. M .rs x c)
+  step M ins held (Ms a c) = andThen (heldBy M held a) (λ x. M .ms x c)
+  step M ins held (Us a b) = andThen (heldBy M held a) (λ x. M .us x b)
   step M ins held Free = stops (M .absent)
 
 -- the `in` lines up to and with this line
 abbrev pub countIn : Line → ℕ → ℕ
-countIn In n = suc n
-countIn (Const k) n = n
-countIn (Neg a) n = n
-countIn (Rot a t) n = n
-countIn (Add a b) n = n
-countIn (Mul a b) n = n
-countIn (Out a) n = n
-countIn (Enc a s e) n = n
-countIn (Rs a c) n = n
-countIn (Ms a c) n = n
-countIn (Us a b) n = n
-countIn Free n = n
+countIn x n = cond (sameWord (wordOf x) Words.the-variants.In) (suc n) n
 
 module _ {X E : Type 0} where
   -- the lines xs, after lines that hold `held` and have `ins` inputs

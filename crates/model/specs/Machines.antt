@@ -9,7 +9,7 @@ use lib.IntN.{ℤ, pos, negsuc, negℤ, natAbs, _+ℤ_, _-ℤ_, _*ℤ_}
 use lib.Signed.{ltZ, quotZ, remZ}
 use Rattle.ints.specs.Parts.{positive}
 use Rattle.model.specs.declared.Header.{Header}
-use Rattle.model.specs.Scales.{floor}
+use Rattle.model.specs.Scales.{headroom}
 use Rattle.model.specs.Machine.{Step, goes, stops, Machine}
 
 -- "vectors of n whole numbers of any size and sign"
@@ -92,34 +92,34 @@ stopIf true e r = stops e
 stopIf false e r = r
 
 -- "It stops … at a scale above F·level or below W." A scale or a level that `rs` or `ms` takes below zero is a negative number here.
-abbrev pub holds : Header → ℤ → ℤ → Vector → Step Holding Reason
-holds h s l v =
+abbrev pub ifBounded : Header → ℤ → ℤ → Vector → Step Holding Reason
+ifBounded h s l v =
     stopIf (ltZ s (pos (h .waterline))) belowWaterline
-    (stopIf (ltZ (pos (h .factor) *ℤ l) (s +ℤ pos (floor h))) aboveModulus
+    (stopIf (ltZ (pos (h .factor) *ℤ l) (s +ℤ pos (headroom h))) aboveModulus
     (goes (scaled (positive s) (positive l) v)))
 
 abbrev pub onScaled : (ℕ → ℕ → Vector → Step Holding Reason) → Holding → Step Holding Reason
 onScaled f (bare v) = stops otherKind
 onScaled f (scaled s l v) = f s l v
 
-abbrev pub onBare : (Vector → Step Holding Reason) → Holding → Step Holding Reason
-onBare f (bare v) = f v
-onBare f (scaled s l v) = stops otherKind
+abbrev pub onBareVector : (Vector → Step Holding Reason) → Holding → Step Holding Reason
+onBareVector f (bare v) = f v
+onBareVector f (scaled s l v) = stops otherKind
 
 -- "It stops at a mismatch (levels that differ in `add` or `mul`, scales that differ in `add`, a remainder in `rs`)"
 abbrev pub scaledSum : Header → ℕ → ℕ → Vector → ℕ → ℕ → Vector → Step Holding Reason
 scaledSum h s l v s′ l′ v′ =
     stopIf (not (eqb l l′)) levelsDiffer
-    (stopIf (not (eqb s s′)) scalesDiffer (holds h (pos s) (pos l) (slotwise _+ℤ_ v v′)))
+    (stopIf (not (eqb s s′)) scalesDiffer (ifBounded h (pos s) (pos l) (slotwise _+ℤ_ v v′)))
 
 abbrev pub scaledProduct : Header → ℕ → ℕ → Vector → ℕ → ℕ → Vector → Step Holding Reason
 scaledProduct h s l v s′ l′ v′ =
-    stopIf (not (eqb l l′)) levelsDiffer (holds h (pos (s + s′)) (pos l) (slotwise _*ℤ_ v v′))
+    stopIf (not (eqb l l′)) levelsDiffer (ifBounded h (pos (s + s′)) (pos l) (slotwise _*ℤ_ v v′))
 
 abbrev pub rescaled : Header → ℕ → ℕ → ℕ → Vector → Step Holding Reason
 rescaled h c s l v =
     stopIf (not (noRemainder (h .factor * c) v)) remainder
-    (holds h (pos s -ℤ pos (h .factor * c)) (pos l -ℤ pos c) (overTwoTo (h .factor * c) v))
+    (ifBounded h (pos s -ℤ pos (h .factor * c)) (pos l -ℤ pos c) (overTwoTo (h .factor * c) v))
 
 -- "The scale machine runs a schedule and keeps scales and levels too, as the rules above move them; `enc` has scale S, level E. `in`
 -- and `enc` multiply the vector by two to the scale, `us` by two to B, `rs` divides by two to F·C; `ms` leaves the vector. The other
@@ -128,15 +128,15 @@ abbrev pub scaleMachine : Handed → Header → Machine Holding Reason
 scaleMachine H h =
     record {
       absent = noLine;
-      input = λ k. holds h (pos (h .waterline)) (pos (h .top)) (timesTwoTo (h .waterline) (H .inputs k));
+      input = λ k. ifBounded h (pos (h .waterline)) (pos (h .top)) (timesTwoTo (h .waterline) (H .inputs k));
       constant = λ k. goes (bare (H .constants k));
-      neg = λ x. onScaled (λ s l v. holds h (pos s) (pos l) (map negℤ v)) x;
-      rot = λ x t. onScaled (λ s l v. holds h (pos s) (pos l) (rotated (H .slots) t v)) x;
+      neg = λ x. onScaled (λ s l v. ifBounded h (pos s) (pos l) (map negℤ v)) x;
+      rot = λ x t. onScaled (λ s l v. ifBounded h (pos s) (pos l) (rotated (H .slots) t v)) x;
       add = λ x y. onScaled (λ s l v. onScaled (scaledSum h s l v) y) x;
       mul = λ x y. onScaled (λ s l v. onScaled (scaledProduct h s l v) y) x;
-      out = λ x. onScaled (λ s l v. holds h (pos s) (pos l) v) x;
-      enc = λ x s e. onBare (λ v. holds h (pos s) (pos e) (timesTwoTo s v)) x;
+      out = λ x. onScaled (λ s l v. ifBounded h (pos s) (pos l) v) x;
+      enc = λ x s e. onBareVector (λ v. ifBounded h (pos s) (pos e) (timesTwoTo s v)) x;
       rs = λ x c. onScaled (rescaled h c) x;
-      ms = λ x c. onScaled (λ s l v. holds h (pos s) (pos l -ℤ pos c) v) x;
-      us = λ x b. onScaled (λ s l v. holds h (pos (s + b)) (pos l) (timesTwoTo b v)) x;
+      ms = λ x c. onScaled (λ s l v. ifBounded h (pos s) (pos l -ℤ pos c) v) x;
+      us = λ x b. onScaled (λ s l v. ifBounded h (pos (s + b)) (pos l) (timesTwoTo b v)) x;
     }

@@ -5,33 +5,39 @@ use mathlib.Core.List.{List, [], _∷_}
 use lib.Dec.{eqb}
 use lib.IntN.{ℤ, pos, _+ℤ_, _-ℤ_, _*ℤ_}
 use lib.Signed.{leZ}
+use Rattle.rows.specs.Rows.{placeOf, Tests}
 use Rattle.ints.specs.Parts.{positive, negative}
 use Rattle.model.specs.declared.Header.{Header}
 use Rattle.model.specs.declared.Line.{Line}
-use Rattle.model.specs.declared.Line.the-variants.{In, Const, Neg, Rot, Add, Mul, Out, Enc, Rs, Ms, Us, Free}
 use Rattle.model.specs.declared.Answer.{Answer}
 use Rattle.model.specs.declared.Answer.the-variants.{Done, Level, Refused}
 use Rattle.model.specs.declared.Found.{Found}
 use Rattle.model.specs.declared.Found.the-variants as Founds
-use Rattle.model.specs.Scales.{floor}
-use Rattle.model.specs.Files.{placeOf, File}
+use Rattle.model.specs.Scales.{headerNumbers, headroom}
+use Rattle.model.specs.Words.{sameWord}
+use Rattle.model.specs.Files.{File, said, wordOf}
 use Rattle.model.specs.Machine.{Step, goes, stops, Machine, finished, stopped, run}
 use Rattle.model.specs.Services.{erase}
 
 -- "A refusal is its number and place, and in a call with several files also which of them, counted from 1 in the order read, 0 with place
 -- 0 (12: the circuit)". It is 0 where nothing is refused.
--- file: the one whose line is at fault, 1 for the circuit in planning and least level, 2 for the schedule in a check
+-- file: the one whose line is at fault, 1 for the circuit in the least level, 2 for the schedule in a check
 abbrev pub answerFile : ℕ → Answer → ℕ
 answerFile file Done = 0
 answerFile file (Level l) = 0
 answerFile file (Refused n p) = cond (eqb p 0) 0 (cond (eqb n 12) 1 file)
 
--- "10 scale below W. 9 scale above F·level.", in this order. "A `rs` or `ms` past zero counts as a negative result."
+-- tests in the order in which they are asked: a stop with the number of the first that fails
+abbrev pub unless : Tests → Step Found ℕ → Step Found ℕ
+unless [] more = more
+unless ((n, passes) ∷ tests) more = cond passes (unless tests more) (stops n)
+
+-- "10 scale below W. 9 scale above F·level." "A `rs` or `ms` past zero counts as a negative result."
+abbrev pub boundTests : Header → ℤ → ℤ → Tests
+boundTests h s l = (10, leZ (pos (h .waterline)) s) ∷ (9, leZ (s +ℤ pos (headroom h)) (pos (h .factor) *ℤ l)) ∷ []
+
 abbrev pub bounded : Header → (ℕ → ℕ → Found) → ℤ → ℤ → Step Found ℕ
-bounded h found s l =
-    cond (leZ (pos (h .waterline)) s)
-    (cond (leZ (s +ℤ pos (floor h)) (pos (h .factor) *ℤ l)) (goes (found (positive s) (positive l))) (stops 9))
-    (stops 10)
+bounded h found s l = unless (boundTests h s l) (goes (found (positive s) (positive l)))
 
 -- "5 operand of the wrong kind": a well-formed schedule has none.
 abbrev pub onBare : Step Found ℕ → Found → Step Found ℕ
@@ -54,11 +60,10 @@ onPair f (Founds.Ciphertext s l) (Founds.Ciphertext s′ l′) = f s l s′ l′
 
 -- "7 levels differ. 8 scales differ in `add`."
 abbrev pub sum : Header → ℕ → ℕ → ℕ → ℕ → Step Found ℕ
-sum h s l s′ l′ =
-    cond (eqb l l′) (cond (eqb s s′) (bounded h Founds.Ciphertext (pos s) (pos l)) (stops 8)) (stops 7)
+sum h s l s′ l′ = unless ((7, eqb l l′) ∷ (8, eqb s s′) ∷ []) (bounded h Founds.Ciphertext (pos s) (pos l))
 
 abbrev pub product : Header → ℕ → ℕ → ℕ → ℕ → Step Found ℕ
-product h s l s′ l′ = cond (eqb l l′) (bounded h Founds.Ciphertext (pos (s + s′)) (pos l)) (stops 7)
+product h s l s′ l′ = unless ((7, eqb l l′) ∷ []) (bounded h Founds.Ciphertext (pos (s + s′)) (pos l))
 
 -- "per line 7, 8, 10, 9"
 abbrev pub checkMachine : Header → Machine Found ℕ
@@ -83,33 +88,19 @@ abbrev pub rulesAnswer : Header → List Line → Answer
 rulesAnswer h schedule =
     elim (run (checkMachine h) schedule) [ finished found ↦ Done | stopped i n ↦ Refused n (placeOf i) ]
 
--- A line as numbers: its word's, then its fields'.
-abbrev pub codeOf : Line → List ℕ
-codeOf In = 0 ∷ []
-codeOf (Const k) = 1 ∷ k ∷ []
-codeOf (Neg a) = 2 ∷ a ∷ []
-codeOf (Rot a t) = 3 ∷ a ∷ positive t ∷ negative t ∷ []
-codeOf (Add a b) = 4 ∷ a ∷ b ∷ []
-codeOf (Mul a b) = 5 ∷ a ∷ b ∷ []
-codeOf (Out a) = 6 ∷ a ∷ []
-codeOf (Enc a s e) = 7 ∷ a ∷ s ∷ e ∷ []
-codeOf (Rs a c) = 8 ∷ a ∷ c ∷ []
-codeOf (Ms a c) = 9 ∷ a ∷ c ∷ []
-codeOf (Us a b) = 10 ∷ a ∷ b ∷ []
-codeOf Free = 11 ∷ []
-
-abbrev pub sameNumbers : List ℕ → List ℕ → Bool
+-- the same numbers
+abbrev pub sameNumbers : List ℤ → List ℤ → Bool
 sameNumbers [] [] = true
 sameNumbers [] (n ∷ ns) = false
 sameNumbers (m ∷ ms) [] = false
-sameNumbers (m ∷ ms) (n ∷ ns) = eqb m n && sameNumbers ms ns
+sameNumbers (m ∷ ms) (n ∷ ns) = eqb (positive m) (positive n) && (eqb (negative m) (negative n) && sameNumbers ms ns)
 
+-- the same word and the same numbers in its fields
 abbrev pub sameLine : Line → Line → Bool
-sameLine x y = sameNumbers (codeOf x) (codeOf y)
+sameLine x y = sameWord (wordOf x) (wordOf y) && sameNumbers (said x .numbers) (said y .numbers)
 
 abbrev pub sameHeader : Header → Header → Bool
-sameHeader h k =
-    eqb (h .factor) (k .factor) && (eqb (h .waterline) (k .waterline) && eqb (h .top) (k .top))
+sameHeader h k = sameNumbers (headerNumbers h) (headerNumbers k)
 
 -- "12 erases to another circuit; place of the first circuit line that differs, or one past the shorter file." n: the value number of
 -- the first lines here.

@@ -9,7 +9,7 @@ use lib.ListN.{length, getD}
 use Rattle.model.specs.declared.Header.{Header}
 use Rattle.model.specs.declared.Line.{Line}
 use Rattle.model.specs.declared.Line.the-variants.{In, Const, Neg, Rot, Add, Mul, Out, Enc, Rs, Ms, Us, Free}
-use Rattle.model.specs.Scales.{modulus, asked}
+use Rattle.model.specs.Scales.{modulus, headroom}
 use Rattle.model.specs.Files.{kindOf, isCiphertext, isEncoded}
 
 -- line i, where each line has a scale and a level
@@ -37,10 +37,10 @@ Rule h scale level i (Ms a c) = (scale i ≡ scale a) × (level i + c ≡ level 
 Rule h scale level i (Us a b) = (scale i ≡ scale a + b) × (level i ≡ level a)
 Rule h scale level i Free = Unit {0}
 
--- "W ≤ scale ≤ F·level": what a scale asks of the modulus is the scale, the least reserve being 0
+-- "W ≤ scale ≤ F·level"
 pub record Bounds (h : Header) (scale level : ℕ) : Type 0 where
   pub low : h .waterline ≤ scale
-  pub high : asked h scale ≤ modulus h level
+  pub high : scale + headroom h ≤ modulus h level
 
 -- "ciphertext or encoded constant"
 abbrev pub hasScale : Line → Bool

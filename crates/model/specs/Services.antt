@@ -1,15 +1,18 @@
 -- Document 01, "Services", on files that were read: erase a schedule, plan a circuit, the least top level. The check stands with its
 -- refusals in Refused.
 use Prim.Native.Nat.{ℕ, zero, suc}
+use mathlib.Core.Bool.{cond, not, _&&_}
 use mathlib.Core.List.{List, [], _∷_, _++_}
-use lib.ListN.{length, getD}
+use lib.ListN.{getD}
 use Rattle.model.specs.declared.Header.{Header}
 use Rattle.model.specs.declared.Line.{Line}
-use Rattle.model.specs.declared.Line.the-variants.{In, Const, Neg, Rot, Add, Mul, Out, Enc, Rs, Ms, Us, Free}
+use Rattle.model.specs.declared.Grammar.the-variants.{Schedule}
 use Rattle.model.specs.declared.Answer.{Answer}
 use Rattle.model.specs.declared.Answer.the-variants.{Done, Level, Refused}
+use Rattle.rows.specs.Rows.{placeOf}
 use Rattle.model.specs.Scales.{withTop}
-use Rattle.model.specs.Files.{placeOf, File}
+use Rattle.model.specs.Files.{File, said, lineOf, wordOf, rowOf, isWord, isCircuitWord, operands}
+use Rattle.model.specs.Words.{renumber}
 use Rattle.model.specs.Machine.{finished, stopped, run}
 use Rattle.model.specs.Plan.{bestMachine, planLines}
 
@@ -18,76 +21,40 @@ pub data Fate : Type 0 where
   kept : Fate
   madeFrom : ℕ → Fate
 
--- Demand 2: "striking out the encode, rescale, modswitch and upscale lines"
+-- "Erasing keeps the lines with circuit words"; demand 2: "striking out the encode, rescale, modswitch and upscale lines", a schedule's own
 abbrev pub fateOf : Line → Fate
-fateOf In = kept
-fateOf (Const k) = kept
-fateOf (Neg a) = kept
-fateOf (Rot a t) = kept
-fateOf (Add a b) = kept
-fateOf (Mul a b) = kept
-fateOf (Out a) = kept
-fateOf (Enc a s e) = madeFrom a
-fateOf (Rs a c) = madeFrom a
-fateOf (Ms a c) = madeFrom a
-fateOf (Us a b) = madeFrom a
-fateOf Free = kept
+fateOf x = cond (isWord Schedule x && not (isCircuitWord x)) (madeFrom (getD (operands x) 0 0)) kept
 
 -- A line that names other values.
 abbrev pub renamed : (ℕ → ℕ) → Line → Line
-renamed f In = In
-renamed f (Const k) = Const k
-renamed f (Neg a) = Neg (f a)
-renamed f (Rot a t) = Rot (f a) t
-renamed f (Add a b) = Add (f a) (f b)
-renamed f (Mul a b) = Mul (f a) (f b)
-renamed f (Out a) = Out (f a)
-renamed f (Enc a s e) = Enc (f a) s e
-renamed f (Rs a c) = Rs (f a) c
-renamed f (Ms a c) = Ms (f a) c
-renamed f (Us a b) = Us (f a) b
-renamed f Free = Free
+renamed name x = lineOf (wordOf x) (renumber name (rowOf x .fields) (said x .numbers))
 
 -- "an operand on a struck line becomes the kept line that it was made from, and values are counted anew". origins: for each line so far the
 -- kept line that it is or was made from, counted anew; count: the lines kept so far.
 abbrev pub renumbered : List ℕ → ℕ → Line → Line
 renumbered origins count x = renamed (λ a. getD origins a count) x
 
--- fate: what becomes of the line with that value number; in erasing the word alone decides
-module _ (fate : ℕ → Line → Fate) where
-  -- the lines that stay
-  abbrev pub eraseFrom : List ℕ → ℕ → List Line → List Line
-  eraseFrom origins count [] = []
-  eraseFrom origins count (x ∷ xs) =
-      elim (fate (length origins) x) [
-        | kept ↦ renumbered origins count x ∷ eraseFrom (origins ++ (count ∷ [])) (suc count) xs
-        | madeFrom a ↦ eraseFrom (origins ++ (getD origins a count ∷ [])) count xs
-      ]
+-- the lines that stay
+abbrev pub eraseFrom : List ℕ → ℕ → List Line → List Line
+eraseFrom origins count [] = []
+eraseFrom origins count (x ∷ xs) =
+    elim (fateOf x) [
+      | kept ↦ renumbered origins count x ∷ eraseFrom (origins ++ (count ∷ [])) (suc count) xs
+      | madeFrom a ↦ eraseFrom (origins ++ (getD origins a count ∷ [])) count xs
+    ]
 
-  -- for each line the kept line that it is or was made from
-  abbrev pub originsFrom : List ℕ → ℕ → List Line → List ℕ
-  originsFrom origins count [] = origins
-  originsFrom origins count (x ∷ xs) =
-      elim (fate (length origins) x) [
-        | kept ↦ originsFrom (origins ++ (count ∷ [])) (suc count) xs
-        | madeFrom a ↦ originsFrom (origins ++ (getD origins a count ∷ [])) count xs
-      ]
-
-  -- the value numbers of the kept lines, in order
-  abbrev pub keptFrom : ℕ → List Line → List ℕ
-  keptFrom i [] = []
-  keptFrom i (x ∷ xs) = elim (fate i x) [ kept ↦ i ∷ keptFrom (suc i) xs | madeFrom a ↦ keptFrom (suc i) xs ]
+-- the value numbers of the kept lines, in order
+abbrev pub keptFrom : ℕ → List Line → List ℕ
+keptFrom i [] = []
+keptFrom i (x ∷ xs) = elim (fateOf x) [ kept ↦ i ∷ keptFrom (suc i) xs | madeFrom a ↦ keptFrom (suc i) xs ]
 
 -- "Erasing keeps the lines with circuit words". The rules need not hold.
 abbrev pub erase : List Line → List Line
-erase schedule = eraseFrom (λ i x. fateOf x) [] 0 schedule
-
-abbrev pub origins : List Line → List ℕ
-origins schedule = originsFrom (λ i x. fateOf x) [] 0 schedule
+erase schedule = eraseFrom [] 0 schedule
 
 -- "The lines that erasing keeps are the circuit's, in order."
 abbrev pub keptLines : List Line → List ℕ
-keptLines schedule = keptFrom (λ i x. fateOf x) 0 schedule
+keptLines schedule = keptFrom 0 schedule
 
 -- "Erasing keeps the lines with circuit words, under the header word `circuit`": the header's numbers stay.
 abbrev pub eraseFile : File → File
@@ -95,15 +62,15 @@ eraseFile schedule = record { header = schedule .header; lines = erase (schedule
 
 -- What planning gives: a schedule, or a refusal's number and place.
 pub data Planned : Type 0 where
-  written : File → Planned
-  refused : ℕ → ℕ → Planned
+  scheduled : File → Planned
+  unplanned : ℕ → ℕ → Planned
 
 -- 6 at the first line with best reserve below zero, and otherwise the plan, under the circuit's header numbers.
 abbrev pub plan : File → Planned
 plan circuit =
     elim (run (bestMachine (circuit .header)) (circuit .lines)) [
-      | finished best ↦ written (record { header = circuit .header; lines = planLines (circuit .header) best (circuit .lines) })
-      | stopped i n ↦ refused n (placeOf i)
+      | finished best ↦ scheduled (record { header = circuit .header; lines = planLines (circuit .header) best (circuit .lines) })
+      | stopped i n ↦ unplanned n (placeOf i)
     ]
 
 -- "trying L from 1 upward to 60 and stopping at the first that fits": the levels from l on, of which `left` are left; `last` is the refusal

@@ -1,39 +1,43 @@
--- The two machines on small files, as rows of one table: to the end, and each way in which the scale machine can stop on a well-formed
--- schedule. Document 01's own cases are rows of the services' table, on whole files.
+-- Small files, as cases of one table: the two machines, to the end and each way in which the scale machine can stop on a well-formed
+-- schedule; and plans that pin the clauses of "The plan" one by one. Document 01's own cases are rows of the services' table, on whole
+-- files.
 use Prim.Native.Nat.{ℕ, _+_}
 use mathlib.Core.Path.{refl}
-use mathlib.Core.Bool.{Bool, true, false, _&&_}
-use mathlib.Core.List.{List, [], _∷_, map}
+use mathlib.Core.Bool.{Bool, true, _&&_}
+use mathlib.Core.List.{List, [], _∷_, _++_}
 use lib.Dec.{lit≤}
 use lib.IntN.{ℤ, pos, negsuc, _-ℤ_}
-use Rattle.ints.specs.Parts.{positive, negative}
 use Rattle.model.specs.declared.Line.{Line}
 use Rattle.model.specs.declared.Line.the-variants.{In, Const, Neg, Rot, Add, Mul, Out, Enc, Rs, Ms, Us}
 use Rattle.model.specs.declared.Grammar.{Grammar}
 use Rattle.model.specs.declared.Grammar.the-variants.{Circuit, Schedule}
 use Rattle.model.specs.Files.{File, wellFormed}
 use Rattle.model.specs.Machine.{Run, finished, stopped, run}
-use Rattle.model.specs.Machines.{Vector, Handed, Holding, scaled, Reason, noLine, otherWord, otherKind, levelsDiffer, scalesDiffer, remainder, belowWaterline, aboveModulus, plainMachine, scaleMachine, timesTwoTo}
-use Rattle.model.specs.Refused.{sameNumbers}
+use Rattle.model.specs.Machines.{Vector, Handed, Holding, scaled, plainMachine, scaleMachine, timesTwoTo}
+use Rattle.model.specs.Machines.{Reason, levelsDiffer, scalesDiffer, remainder, belowWaterline, aboveModulus}
+use Rattle.model.specs.Services.{Planned, scheduled, unplanned, plan}
 
--- Run the scale machine on the schedule; run the plain machine on the circuit.
-pub data Question : Type 0 where
-  runs : Question
-  runsPlain : Question
+-- Run the scale machine on the schedule; run the plain machine on the circuit; plan the circuit.
+pub data Asked : Type 0 where
+  runs : Asked
+  runsPlain : Asked
+  plans : Asked
 
-pub data Outcome : Type 0 where
-  ends : Run Holding Reason → Outcome
-  endsPlain : Run Vector Reason → Outcome
+pub data Ends : Type 0 where
+  scaleRun : Run Holding Reason → Ends
+  plainRun : Run Vector Reason → Ends
+  planning : Planned → Ends
 
-pub record Row : Type 0 where
+pub record Case : Type 0 where
   pub input : File
-  pub question : Question
-  pub outcome : Outcome
+  pub asked : Asked
+  pub ends : Ends
 
--- the file that a question is about
-abbrev pub grammarOf : Question → Grammar
+-- the file that is asked about
+abbrev pub grammarOf : Asked → Grammar
 grammarOf runs = Schedule
 grammarOf runsPlain = Circuit
+grammarOf plans = Circuit
 
 -- What the machines are handed: three slots, input number k holding k + 1, k + 2 and k − 3, constant number k holding k, −1 and 2.
 abbrev pub handed : Handed
@@ -47,64 +51,36 @@ handed =
       constants-long = λ k. refl;
     }
 
-abbrev pub outcomeOf : Question → File → Outcome
-outcomeOf runs file = ends (run (scaleMachine handed (file .header)) (file .lines))
-outcomeOf runsPlain file = endsPlain (run (plainMachine handed) (file .lines))
+abbrev pub endsOf : Asked → File → Ends
+endsOf runs file = scaleRun (run (scaleMachine handed (file .header)) (file .lines))
+endsOf runsPlain file = plainRun (run (plainMachine handed) (file .lines))
+endsOf plans file = planning (plan file)
 
--- An outcome as lists of numbers, so that two can be compared.
-abbrev pub vectorCode : Vector → List ℕ
-vectorCode [] = []
-vectorCode (x ∷ v) = positive x ∷ negative x ∷ vectorCode v
+abbrev pub inputFormed : Case → Bool
+inputFormed c = wellFormed (grammarOf (c .asked)) (c .input .header) (c .input .lines)
 
-abbrev pub holdingCode : Holding → List ℕ
-holdingCode (Holding.bare v) = 0 ∷ vectorCode v
-holdingCode (scaled t l v) = 1 ∷ t ∷ l ∷ vectorCode v
+abbrev pub allFormed : List Case → Bool
+allFormed [] = true
+allFormed (c ∷ cs) = inputFormed c && allFormed cs
 
-abbrev pub reasonCode : Reason → ℕ
-reasonCode noLine = 0
-reasonCode otherWord = 1
-reasonCode otherKind = 2
-reasonCode levelsDiffer = 3
-reasonCode scalesDiffer = 4
-reasonCode remainder = 5
-reasonCode belowWaterline = 6
-reasonCode aboveModulus = 7
-
-abbrev pub outcomeCode : Outcome → List (List ℕ)
-outcomeCode (ends (finished held)) = (0 ∷ []) ∷ map holdingCode held
-outcomeCode (ends (stopped i e)) = (1 ∷ i ∷ reasonCode e ∷ []) ∷ []
-outcomeCode (endsPlain (finished held)) = (2 ∷ []) ∷ map vectorCode held
-outcomeCode (endsPlain (stopped i e)) = (3 ∷ i ∷ reasonCode e ∷ []) ∷ []
-
-abbrev pub sameLists : List (List ℕ) → List (List ℕ) → Bool
-sameLists [] [] = true
-sameLists [] (n ∷ ns) = false
-sameLists (m ∷ ms) [] = false
-sameLists (m ∷ ms) (n ∷ ns) = sameNumbers m n && sameLists ms ns
-
-abbrev pub inputFormed : Row → Bool
-inputFormed r = wellFormed (grammarOf (r .question)) (r .input .header) (r .input .lines)
-
--- the input is a file of the question's grammar, and the outcome is the row's
-abbrev pub rowHolds : Row → Bool
-rowHolds r =
-    inputFormed r
-    && sameLists (outcomeCode (outcomeOf (r .question) (r .input))) (outcomeCode (r .outcome))
-
-abbrev pub allHold : List Row → Bool
-allHold [] = true
-allHold (r ∷ rs) = rowHolds r && allHold rs
+-- F, W and L, and the lines
+abbrev pub under : ℕ → ℕ → ℕ → List Line → File
+under f w l lines = record { header = record { factor = f; waterline = w; top = l }; lines = lines }
 
 -- F = 60, W = 20
 abbrev pub at : ℕ → List Line → File
-at l lines = record { header = record { factor = 60; waterline = 20; top = l }; lines = lines }
+at l lines = under 60 20 l lines
 
-abbrev pub row : File → Question → Outcome → Row
-row file q o = record { input = file; question = q; outcome = o }
+abbrev pub case : File → Asked → Ends → Case
+case file asked ends = record { input = file; asked = asked; ends = ends }
 
--- the row past the end of the table
-abbrev pub noRow : Row
-noRow = row (at 1 []) runs (ends (finished []))
+-- a circuit and its plan
+abbrev pub withPlan : ℕ → ℕ → ℕ → List Line → List Line → Case
+withPlan f w l circuit schedule = case (under f w l circuit) plans (planning (scheduled (under f w l schedule)))
+
+-- the case past the end of the table
+abbrev pub noCase : Case
+noCase = case (at 1 []) runs (scaleRun (finished []))
 
 -- three slots, and the same times two to the k
 abbrev pub slots : ℤ → ℤ → ℤ → Vector
@@ -113,11 +89,11 @@ slots a b c = a ∷ b ∷ c ∷ []
 abbrev pub held : ℕ → ℕ → ℤ → ℤ → ℤ → Holding
 held k l a b c = scaled k l (timesTwoTo k (slots a b c))
 
-abbrev pub table : List Row
-table =
+abbrev pub machineCases : List Case
+machineCases =
     -- the plain machine
-    row (at 2 (In ∷ Const 7 ∷ Neg 0 ∷ Rot 0 (pos 1) ∷ Rot 0 (negsuc 3) ∷ Add 0 1 ∷ Mul 0 0 ∷ In ∷ Out 6 ∷ [])) runsPlain
-    (endsPlain (finished (
+    case (at 2 (In ∷ Const 7 ∷ Neg 0 ∷ Rot 0 (pos 1) ∷ Rot 0 (negsuc 3) ∷ Add 0 1 ∷ Mul 0 0 ∷ In ∷ Out 6 ∷ [])) runsPlain
+    (plainRun (finished (
     slots (pos 1) (pos 2) (negsuc 2)
     ∷ slots (pos 7) (negsuc 0) (pos 2)
     ∷ slots (negsuc 0) (negsuc 1) (pos 3)
@@ -129,8 +105,8 @@ table =
     ∷ slots (pos 1) (pos 4) (pos 9)
     ∷ [])))
     -- the scale machine to its end
-    ∷ row (at 2 (In ∷ Const 7 ∷ Enc 1 20 2 ∷ Mul 0 2 ∷ Us 3 40 ∷ Rs 4 1 ∷ Ms 3 1 ∷ Rot 5 (pos 1) ∷ Out 7 ∷ [])) runs
-    (ends (finished (
+    ∷ case (at 2 (In ∷ Const 7 ∷ Enc 1 20 2 ∷ Mul 0 2 ∷ Us 3 40 ∷ Rs 4 1 ∷ Ms 3 1 ∷ Rot 5 (pos 1) ∷ Out 7 ∷ [])) runs
+    (scaleRun (finished (
     held 20 2 (pos 1) (pos 2) (negsuc 2)
     ∷ Holding.bare (slots (pos 7) (negsuc 0) (pos 2))
     ∷ held 20 2 (pos 7) (negsuc 0) (pos 2)
@@ -142,11 +118,53 @@ table =
     ∷ held 20 1 (negsuc 1) (negsuc 5) (pos 7)
     ∷ [])))
     -- and each way it can stop on a well-formed schedule
-    ∷ row (at 2 (In ∷ Ms 0 1 ∷ Add 0 1 ∷ [])) runs (ends (stopped 2 levelsDiffer))
-    ∷ row (at 2 (In ∷ Ms 0 1 ∷ Mul 0 1 ∷ [])) runs (ends (stopped 2 levelsDiffer))
-    ∷ row (at 2 (In ∷ Us 0 1 ∷ Add 0 1 ∷ [])) runs (ends (stopped 2 scalesDiffer))
-    ∷ row (at 2 (In ∷ Rs 0 1 ∷ [])) runs (ends (stopped 1 remainder))
-    ∷ row (at 2 (In ∷ Us 0 59 ∷ Rs 1 1 ∷ [])) runs (ends (stopped 2 belowWaterline))
-    ∷ row (at 1 (In ∷ Us 0 41 ∷ [])) runs (ends (stopped 1 aboveModulus))
-    ∷ row (at 1 (In ∷ Ms 0 1 ∷ [])) runs (ends (stopped 1 aboveModulus))
+    ∷ case (at 2 (In ∷ Ms 0 1 ∷ Add 0 1 ∷ [])) runs (scaleRun (stopped 2 levelsDiffer))
+    ∷ case (at 2 (In ∷ Ms 0 1 ∷ Mul 0 1 ∷ [])) runs (scaleRun (stopped 2 levelsDiffer))
+    ∷ case (at 2 (In ∷ Us 0 1 ∷ Add 0 1 ∷ [])) runs (scaleRun (stopped 2 scalesDiffer))
+    ∷ case (at 2 (In ∷ Rs 0 1 ∷ [])) runs (scaleRun (stopped 1 remainder))
+    ∷ case (at 2 (In ∷ Us 0 59 ∷ Rs 1 1 ∷ [])) runs (scaleRun (stopped 2 belowWaterline))
+    ∷ case (at 1 (In ∷ Us 0 41 ∷ [])) runs (scaleRun (stopped 1 aboveModulus))
+    ∷ case (at 1 (In ∷ Ms 0 1 ∷ [])) runs (scaleRun (stopped 1 aboveModulus))
     ∷ []
+
+-- Plans, our own, worked by hand: of each line its reserve @ its level; for each operand that is brought (r, l) to (r′, l′), d and q.
+abbrev pub planCases : List Case
+planCases =
+    -- `neg` and `rot` at m(r), not at the operand's level. in 20 @ 3; mul: m = 3, 20 + 20 − 30 = 10 @ 3, below it 20 − 20 = 0;
+    -- neg: m(10) = 2, (10, 3) to (10, 2): d = 0, q = 0, rs 1.
+    withPlan 10 10 3 (In ∷ Mul 0 0 ∷ Neg 1 ∷ []) (In ∷ Mul 0 0 ∷ Rs 1 1 ∷ Neg 2 ∷ [])
+    ∷ withPlan 10 10 3 (In ∷ Mul 0 0 ∷ Rot 1 (negsuc 4) ∷ []) (In ∷ Mul 0 0 ∷ Rs 1 1 ∷ Rot 2 (negsuc 4) ∷ [])
+    -- `out` names the product as it is, at level 3.
+    ∷ withPlan 10 10 3 (In ∷ Mul 0 0 ∷ Out 1 ∷ []) (In ∷ Mul 0 0 ∷ Out 1 ∷ [])
+    -- `add` at m(r), not at the smaller level, and each operand with its own conversion: 10 @ 2, twice (10, 3) to (10, 2).
+    ∷ withPlan 10 10 3 (In ∷ Mul 0 0 ∷ Add 1 1 ∷ []) (In ∷ Mul 0 0 ∷ Rs 1 1 ∷ Rs 1 1 ∷ Add 2 3 ∷ [])
+    -- the smaller reserve in either place. Value 0: (20, 3) to (10, 2), d = 10, q = 1 = l − l′: ms 1, no us, no rs; value 1 as before.
+    ∷ withPlan 10 10 3 (In ∷ Mul 0 0 ∷ Add 0 1 ∷ []) (In ∷ Mul 0 0 ∷ Ms 0 1 ∷ Rs 1 1 ∷ Add 2 3 ∷ [])
+    ∷ withPlan 10 10 3 (In ∷ Mul 0 0 ∷ Add 1 0 ∷ []) (In ∷ Mul 0 0 ∷ Rs 1 1 ∷ Ms 0 1 ∷ Add 2 3 ∷ [])
+    -- a constant is added at m(r) and the ciphertext's scale, not at level 4 or scale W. in 25 @ 4; mul: m = 4, 25 + 25 − 40 = 10 @ 4,
+    -- below it 30 − 30 = 0; add: m(10) = 3, (10, 4) to (10, 3): d = 0, q = 0, rs 1; scale 30 − 10 = 20.
+    ∷ withPlan 10 15 4 (In ∷ Const 7 ∷ Mul 0 0 ∷ Add 2 1 ∷ []) (In ∷ Const 7 ∷ Mul 0 0 ∷ Rs 2 1 ∷ Enc 1 20 3 ∷ Add 3 4 ∷ [])
+    ∷ withPlan 10 15 4 (In ∷ Const 7 ∷ Mul 0 0 ∷ Add 1 2 ∷ []) (In ∷ Const 7 ∷ Mul 0 0 ∷ Enc 1 20 3 ∷ Rs 2 1 ∷ Add 3 4 ∷ [])
+    -- and multiplied at m(r) and scale W, not at level 5 or the ciphertext's scale 20. in 35 @ 5; mul: m = 5, 35 + 35 − 50 = 20 @ 5, below
+    -- it 40 − 30 = 10; mul with the constant: m(20) = 4, (20, 5) to (20, 4): d = 0, q = 0, rs 1; 20 − 15 = 5 @ 4.
+    ∷ withPlan 10 15 5 (In ∷ Const 7 ∷ Mul 0 0 ∷ Mul 2 1 ∷ []) (In ∷ Const 7 ∷ Mul 0 0 ∷ Rs 2 1 ∷ Enc 1 15 4 ∷ Mul 3 4 ∷ [])
+    ∷ withPlan 10 15 5 (In ∷ Const 7 ∷ Mul 0 0 ∷ Mul 1 2 ∷ []) (In ∷ Const 7 ∷ Mul 0 0 ∷ Enc 1 15 4 ∷ Rs 2 1 ∷ Mul 3 4 ∷ [])
+    -- more than one modswitch. in 20 @ 4; mul: m = 4, 20 + 20 − 40 = 0 @ 4, below it 30 − 40 = −10; add: m(0) = 2.
+    -- Value 0: (20, 4) to (0, 2), d = 20, q = 2 = l − l′: ms 2; value 1: (0, 4) to (0, 2), d = 0, q = 0: rs 2.
+    ∷ withPlan 10 20 4 (In ∷ Mul 0 0 ∷ Add 0 1 ∷ []) (In ∷ Mul 0 0 ∷ Ms 0 2 ∷ Rs 1 2 ∷ Add 2 3 ∷ [])
+    -- `ms` and `us`, no `rs`. in 25 @ 4; mul: m = 4, 25 + 25 − 40 = 10 @ 4, below it 30 − 30 = 0; add: m(10) = 3.
+    -- Value 0: (25, 4) to (10, 3), d = 15, q = 1 = l − l′: ms 1, us 15 − 10 = 5; value 1: (10, 4) to (10, 3): rs 1.
+    ∷ withPlan 10 15 4 (In ∷ Mul 0 0 ∷ Add 0 1 ∷ []) (In ∷ Mul 0 0 ∷ Ms 0 1 ∷ Us 2 5 ∷ Rs 1 1 ∷ Add 3 4 ∷ [])
+    -- `us` alone. in 7 @ 1; mul: 4 @ 1; add: m(4) = 1. Value 0: (7, 1) to (4, 1), d = 3, q = 0: us 3.
+    ∷ withPlan 10 3 1 (In ∷ Mul 0 0 ∷ Add 0 1 ∷ []) (In ∷ Mul 0 0 ∷ Us 0 3 ∷ Add 2 1 ∷ [])
+    -- `ms` and `rs`, no `us`. in 30 @ 4; mul: m = 4, 30 + 30 − 40 = 20 @ 4; mul: m(20) = 3, 20 + 20 − 30 = 10 @ 3; add: m(10) = 2.
+    -- Value 1: (20, 4) to (10, 2), d = 10, q = 1 < l − l′ = 2: ms 1, rs 1; value 2: (10, 3) to (10, 2): rs 1.
+    ∷ withPlan 10 10 4 (In ∷ Mul 0 0 ∷ Mul 1 1 ∷ Add 1 2 ∷ [])
+    (In ∷ Mul 0 0 ∷ Rs 1 1 ∷ Rs 1 1 ∷ Mul 2 3 ∷ Ms 1 1 ∷ Rs 5 1 ∷ Rs 4 1 ∷ Add 6 7 ∷ [])
+    -- reserve 0 is enough, and −1 is not. in 6 @ 1 and mul 6 + 6 − 12 = 0 @ 1; in 5 @ 1 and mul 5 + 5 − 11 = −1, below it 0 − 12.
+    ∷ withPlan 12 6 1 (In ∷ Mul 0 0 ∷ []) (In ∷ Mul 0 0 ∷ [])
+    ∷ case (under 11 6 1 (In ∷ Mul 0 0 ∷ [])) plans (planning (unplanned 6 3))
+    ∷ []
+
+abbrev pub cases : List Case
+cases = machineCases ++ planCases

@@ -57,7 +57,7 @@ pub enum Kind {
 // How a ciphertext line is done: the level, the reserves to which its operands come at that level, and the reserve that it then has.
 // The reserves of the operands mean nothing for `in`, which has no operand, and for `out`, which takes its own as it is.
 // The next line asks for the reserve alone: it stands last, where a copy moves it by itself.
-pub struct Placement {
+pub struct Choice {
     pub level: u32,
     pub first: i32,
     pub second: i32,
@@ -67,12 +67,7 @@ pub struct Placement {
 // What the plan knows of a circuit line: a bare constant, or a ciphertext and how it is done.
 pub enum Best {
     Constant,
-    Ciphertext(Placement),
-}
-
-// One entry of an array of them.
-pub struct Known {
-    pub best: Best,
+    Ciphertext(Choice),
 }
 
 // What the check finds of a line: a bare constant, or a scale and a level.

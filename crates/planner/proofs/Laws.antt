@@ -14,14 +14,15 @@ use Rattle.model.specs.declared.Grammar.the-variants.{Circuit, Schedule}
 use Rattle.model.specs.declared.Best.{Best}
 use Rattle.model.specs.declared.Header.{Header}
 use Rattle.model.specs.declared.Answer.{Answer}
-use Rattle.model.specs.Files.{File, placeOf, TableFormed}
+use Rattle.rows.specs.Rows.{placeOf}
+use Rattle.text.specs.Tables.{TableFormed, fileOf}
+use Rattle.model.specs.Files.{File}
 use Rattle.model.specs.Machine.{Run, finished, stopped, run}
 use Rattle.model.specs.Plan.{bestMachine, planLines}
 use Rattle.model.specs.Services as Services
 use Rattle.model.specs.Services.{Planned, plan, leastLevel}
 use Rattle.model.proofs.Runs.{first-stop}
-use Rattle.text.specs.Files.{readText, fileOf, circuitContext}
-use Rattle.text.specs.Write.{fileText}
+use Rattle.text.specs.Files.{readText, circuitContext, fileText}
 use Rattle.text.proofs.Tables.{table-length}
 use Rattle.tables.specs.Records.{linesHeld, held}
 use Rattle.tables.proofs.Records.{still-long}
@@ -50,14 +51,18 @@ module _ (h : Header) (records : List (List ℕ)) (count : ℕ) (w : Walked) (q 
       record { fits = omega (arith, stop .below, table-length Circuit (held h records count) f, leb→le count 256 (f .few)) }
 
   abbrev planOf : Run Best ℕ → Planned
-  planOf r = elim r [ finished best ↦ Services.written (record { header = h; lines = planLines h best (linesHeld records count) }) | stopped i n ↦ Services.refused n (placeOf i) ]
+  planOf r = elim r [
+    | finished best ↦ Services.scheduled (record { header = h; lines = planLines h best (linesHeld records count) })
+    | stopped i n ↦ Services.unplanned n
+        (placeOf i)
+  ]
 
-  plan-stopped : (w .number ≡ 0 → ⊥) → plan (fileOf (held h records count)) ≡ Services.refused (w .number) (placeOf (w .line))
+  plan-stopped : (w .number ≡ 0 → ⊥) → plan (fileOf (held h records count)) ≡ Services.unplanned (w .number) (placeOf (w .line))
   plan-stopped n = ap planOf (walk-stopped n)
 
   plan-finished :
       w .number ≡ 0 → plan (fileOf (held h records count))
-      ≡ Services.written (record { header = h; lines = planLines h (bestsOf count (w .known)) (linesHeld records count) })
+      ≡ Services.scheduled (record { header = h; lines = planLines h (bestsOf count (w .known)) (linesHeld records count) })
   plan-finished z = ap planOf (walk-finished z)
 
 -- ---- planning

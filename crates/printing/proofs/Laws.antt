@@ -2,24 +2,20 @@
 use Prim.Native.Nat.{ℕ, _+_, _≤_}
 use native.Mathlib.Omega.{arith}
 use mathlib.Core.Path.{_≡_, refl, sym, ap, _∙_}
-use mathlib.Core.List.{[], _∷_}
 use borrow.Author.Needs.{needs}
 use lib.ListN.{length}
 use Rattle.fields.specs.Pieces.{Bytes}
-use Rattle.fields.specs.Numbers.{decimal}
-use Rattle.model.specs.Words.{ascii}
-use Rattle.text.specs.Write.{fieldsText}
 use Rattle.writer.specs.Put.{Put}
 use Rattle.services.specs.declared.Reply.{Reply}
-use Rattle.services.specs.Outcomes.{planOutcome, Replied, refusedLine}
-use Rattle.services.specs.Promises.{ProgramPromise}
+use Rattle.services.specs.Program.{refusedLine, ProgramPromise}
+use Rattle.services.specs.Outcomes.{planOutcome, Replied}
 use Rattle.services.proofs.Program.{decided, refused-short, prints-plan, prints-refusal}
 
 module _ (input out : Bytes) (r : Reply) (after : Bytes) (room : 131072 ≤ length out) (a : Replied (planOutcome input) out r after) (z : r .number ≡ 0 → ⊥) where
-  pub line-room : (m n : ℕ) → 0 + length (fieldsText (ascii "refused" ∷ decimal m ∷ decimal n ∷ [])) ≤ length after
+  pub line-room : (m n : ℕ) → 0 + length (refusedLine m n) ≤ length after
   line-room m n = let same = ap length (prints-refusal input out r after room a z .unchanged) in omega (arith, refused-short m n)
 
-  pub line-printed : (count : ℕ) (last : Bytes) → Put after 0 (fieldsText (ascii "refused" ∷ decimal (r .number) ∷ decimal (r .place) ∷ [])) count last → ProgramPromise input out count last
+  pub line-printed : (count : ℕ) (last : Bytes) → Put after 0 (refusedLine (r .number) (r .place)) count last → ProgramPromise input out count last
   line-printed count last p =
       let is = prints-refusal input out r after room a z in
       let counted : count ≡ length (refusedLine (r .number) (r .place)) = omega (arith, p .place) in

@@ -1,7 +1,7 @@
 // What the program prints: the plan of a circuit, or the line of its refusal.
 ghost use Prim.Native.Nat.{_≤_};
 ghost use lib.ListN.{length};
-ghost use Rattle.services.specs.Promises.{ProgramPromise};
+ghost use Rattle.services.specs.Program.{ProgramPromise};
 
 // The exact bytes for standard output, at the front of `out`, and how many there are. Any plan has room in so many bytes.
 pub fn print_plan(input: &[u8], out: &mut [u8]) -> usize

@@ -9,9 +9,10 @@ use borrow.Author.Tests.{ne-eqb}
 use lib.Dec.{eqb}
 use Rattle.fields.specs.Pieces.{Bytes}
 use Rattle.model.specs.declared.Grammar.the-variants.{Circuit, Schedule}
-use Rattle.model.specs.Files.{TableFormed}
+use Rattle.text.specs.Tables.{TableFormed, fileOf, RestFree}
 use Rattle.text.specs.declared.Context.{Context}
-use Rattle.text.specs.Files.{read, refused, readText, fileOf, RestFree, circuitContext, scheduleContext, eraseContext}
+use Rattle.rows.specs.Rows.{read, refused}
+use Rattle.text.specs.Files.{readText, circuitContext, scheduleContext, eraseContext}
 use Rattle.text.proofs.Theorems as Text
 use Rattle.text.proofs.Refusals.{not-zero}
 use Rattle.reader.specs.declared.FileRead.{FileRead}
@@ -27,7 +28,8 @@ module _ (c : Context) (text : Bytes) (r : FileRead) (records : List (List ℕ))
       go : (b : Bool) → (eqb (r .number) 0 && eqb (r .place) 0) ≡ b → readText c text ≡ read (fileOf (readTable r records))
       go true e = sym q ∙ ap (λ (b : Bool). cond b (read (fileOf (readTable r records))) (refused (r .number) (r .place))) e
       go false e =
-          let told : readText c text ≡ refused (r .number) (r .place) = sym q ∙ ap (λ (b : Bool). cond b (read (fileOf (readTable r records))) (refused (r .number) (r .place))) e in
+          let told : readText c text ≡ refused (r .number) (r .place) =
+          sym q ∙ ap (λ (b : Bool). cond b (read (fileOf (readTable r records))) (refused (r .number) (r .place))) e in
           absurd (not-zero (Text.refusals .refusal c text (r .number) (r .place) told .number) z)
 
 module _ (text : Bytes) (r : FileRead) (records : List (List ℕ)) (free : RestFree (readTable r records)) (z : r .number ≡ 0) where

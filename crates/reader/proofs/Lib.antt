@@ -1,5 +1,5 @@
 pub mod Slices
-pub mod Numbered
-pub mod LineLaws
-pub mod Filling
+mod LineLaws
+mod Filling
+mod HeaderLaws
 pub mod Answers

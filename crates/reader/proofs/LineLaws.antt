@@ -1,138 +1,115 @@
--- The laws of `readText` and `readLines` by which the reader goes: the header line, a line more, the end. Assumes nothing.
+-- The laws by which the reader goes along a text: a line more, and the end. Assumes nothing.
 use Prim.Native.Nat.{ℕ, suc, _+_, _≤_, _<_}
 use native.Mathlib.Omega.{arith}
-use mathlib.Core.Path.{_≡_, refl, sym, _∙_}
-use mathlib.Core.Bool.{Bool, true, false, cond}
+use mathlib.Core.Path.{_≡_, refl, sym, ap, ap₂, _∙_, subst}
+use mathlib.Core.Bool.{Bool, true, false, cond, not, _&&_, _||_}
 use mathlib.Core.List.{List, [], _∷_, _++_}
-use mathlib.Core.Logic.{⊎-elim}
-use borrow.Author.Tests.{lt-ltb, le-ltb, ltb-true}
-use lib.Dec.{ltb}
-use lib.ListN.{length, take, drop}
-use lib.Seq.{take-all}
-use Rattle.fields.specs.Pieces.{Bytes, lineFeed, before, split}
-use Rattle.fields.proofs.PieceLaws.{split-cut, split-last, split-some, before-within}
+use mathlib.Core.Option.{Option, none, some}
+use lib.Dec.{T, leb}
+use lib.ListN.{length, getD, drop}
+use lib.Seq.{drop-drop}
+use Rattle.fields.specs.Pieces.{Bytes, tab, split}
+use Rattle.rows.specs.Forms.{named}
+use Rattle.rows.specs.Lines.{Lines, lines, closed, linesOf}
+use Rattle.rows.specs.Rows.{placeOf, Judgement, good, bad, Reading, read, refused, onward, at, readHeader, readLine, rowsFrom, ended, readLines, readFile}
+use Rattle.model.specs.declared.Grammar.the-variants.{Circuit}
 use Rattle.model.specs.declared.Header.{Header}
 use Rattle.model.specs.declared.Line.{Line}
-use Rattle.model.specs.Files.{placeOf, isCircuitWord}
-use Rattle.model.proofs.Tests.{below-or-not, by-test}
+use Rattle.model.specs.declared.Word.{Word}
+use Rattle.model.specs.Words.{entry, words, hasWord}
+use Rattle.model.specs.Files.{File, wordOf, isCircuitWord}
 use Rattle.text.specs.declared.Context.{Context}
-use Rattle.text.specs.declared.LineRead.{LineRead}
-use Rattle.text.specs.declared.LineRead.the-variants.{Good, Bad}
-use Rattle.text.specs.Lines.{readLine}
-use Rattle.text.specs.Files.{Reading, read, refused, keptCount, tooMany, onward, readLines, afterHeader, readHeader, readText}
-use Rattle.text.proofs.FileLaws as FileLaws
-use Rattle.text.proofs.FileLaws.{kept-append, headed}
-use Rattle.reader.specs.Reads.{nextLine, restOf, keptWith}
+use Rattle.text.specs.Files.{vocabulary, keptCount, isKeptWord, beginsKept, tooMany, format, readText}
+use Rattle.text.proofs.FileLaws.{kept-append}
+use Rattle.forms.specs.Along.{lineIn, isClosed, afterLine, fieldIn}
+use Rattle.forms.proofs.WordLaws.{first-piece}
+use Rattle.forms.proofs.TextLaws.{lines-closed, lines-open, line-open}
+use Rattle.words.specs.Words.{orNoWord, wordIn}
+use Rattle.lines.specs.Lines.{lineJudged, headerJudged}
+use Rattle.reader.specs.Reads.{pastLimits, keptWith, nextLine, restFrom}
 
 -- ---- kept lines
-pub kept-with : (done : List Line) (x : Line) → keptCount (done ++ (x ∷ [])) ≡ keptWith (keptCount done) x
-kept-with done x = go (isCircuitWord x) (kept-append done (x ∷ []))
+pub kept-more : (done : List Line) (x : Line) → keptCount (done ++ (x ∷ [])) ≡ keptWith (keptCount done) (isCircuitWord x)
+kept-more done x = go (isCircuitWord x) (kept-append done (x ∷ []))
   where
     go : (b : Bool) → keptCount (done ++ (x ∷ [])) ≡ keptCount done + cond b 1 0 → keptCount (done ++ (x ∷ [])) ≡ cond b (keptCount done + 1) (keptCount done)
     go true e = e
     go false e = omega arith
 
--- ---- where no byte x is found, it would stand past the end
-at-end : (text : Bytes) → length text ≤ before lineFeed text → before lineFeed text ≡ length text
-at-end text h = omega (arith, before-within lineFeed text)
+-- whether a line would be kept, by the word that it begins with
+begins-by-word : (t : Bytes) → beginsKept (lineIn t) ≡ hasWord Circuit (wordIn t)
+unfolding wordIn
+begins-by-word t = ap (λ (f : Bytes). isKeptWord (named vocabulary words f)) (first-piece t) ∙ go (named vocabulary words (fieldIn t))
+  where
+    go : (o : Option Word) → isKeptWord o ≡ hasWord Circuit (orNoWord o)
+    go none = refl
+    go (some w) = refl
 
--- ---- a line that is taken
-pub record Taken (c : Context) (text : Bytes) (done : List Line) : Type 0 where
-  pub below : length done < c .limit
-  pub ended : before lineFeed text < length text
+pub too-many-by : (c : Context) (done : List Line) (t : Bytes) → tooMany c done (lineIn t) ≡ pastLimits c (length done) (keptCount done) (hasWord Circuit (wordIn t))
+unfolding pastLimits
+too-many-by c done t = ap (λ (b : Bool). leb (c .limit) (length done) || (leb (c .keptlimit) (keptCount done) && b)) (begins-by-word t)
 
-refused-taken : {P : Type 0} (n p : ℕ) (x : Line) → Bad n p ≡ Good x → P
-refused-taken n p x e = absurd (let z : _≡_ {A = ℕ} 0 1 = cc in omega arith)
+-- ---- the lines
+module _ (c : Context) (h : Header) where
+  -- no text is left
+  pub no-line : (done : List Line) → restFrom c h done (linesOf []) ≡ read (record { header = h; lines = done })
+  unfolding linesOf rowsFrom ended
+  no-line done = refl
 
-under : (b q : Bool) → cond b q true ≡ false → b ≡ true
-under true q e = refl
-under false q e = sym e
+  -- a line that a line feed closes
+  next-closed : (done : List Line) (t : Bytes) → isClosed t ≡ true → readLine (format c) h done (lineIn t) ≡ nextLine c h done t
+  unfolding nextLine lineJudged readLine
+  next-closed done t e = rw e
 
-module _ (c : Context) where
-  -- ---- the header line
-  pub unclosed-header : (text : Bytes) → before lineFeed text ≡ length text → readText c text ≡ refused 1 1
-  unfolding readText
-  unclosed-header text e = rw (split-last lineFeed text e)
+  closed-line :
+      (done : List Line) (t : Bytes) → isClosed t ≡ true →
+      restFrom c h done (linesOf t) ≡ at (placeOf (length done)) (nextLine c h done t) (λ x. restFrom c h (done ++ (x ∷ [])) (linesOf (afterLine t)))
+  unfolding rowsFrom
+  closed-line done t e = ap (restFrom c h done) (lines-closed t e) ∙ go (linesOf (afterLine t))
+    where
+      on : (j : Judgement Line) (ps : List Bytes) (rest : Bytes) →
+          onward (at (placeOf (length done)) j (λ x. rowsFrom (format c) h (done ++ (x ∷ [])) ps)) (λ rows. ended (format c) h rows rest)
+          ≡ at (placeOf (length done)) j (λ x. onward (rowsFrom (format c) h (done ++ (x ∷ [])) ps) (λ rows. ended (format c) h rows rest))
+      on (good x) ps rest = refl
+      on (bad n) ps rest = refl
 
-  pub header-line :
-      (text : Bytes) → before lineFeed text < length text →
-      readText c text
-      ≡ afterHeader (readHeader (c .grammar) (take (before lineFeed text) text)) (λ h. restOf c h (drop (suc (before lineFeed text)) text))
-  unfolding readText
-  header-line text l =
-      rw (split-cut lineFeed text l)
-      (headed c (take (before lineFeed text) text) (split lineFeed (drop (suc (before lineFeed text)) text)) (split-some lineFeed (drop (suc (before lineFeed text)) text)))
+      go : (l : Lines) → restFrom c h done (closed (lineIn t) l) ≡ at (placeOf (length done)) (nextLine c h done t) (λ x. restFrom c h (done ++ (x ∷ [])) l)
+      go (lines ps rest) =
+          on (readLine (format c) h done (lineIn t)) ps rest
+          ∙ ap (λ (j : Judgement Line). at (placeOf (length done)) j (λ x. restFrom c h (done ++ (x ∷ [])) (lines ps rest))) (next-closed done t e)
 
-  -- ---- the lines
-  module _ (h : Header) where
-    -- no text is left
-    pub no-line : (done : List Line) → readLines c h (split lineFeed []) done ≡ read (record { header = h; lines = done })
-    unfolding readLines
-    no-line done = rw (split-last lineFeed [] (at-end [] (omega arith)))
+  -- a line that no line feed closes
+  open-line :
+      (done : List Line) (t : Bytes) (more : Line → Reading File) → 1 ≤ length t → isClosed t ≡ false →
+      restFrom c h done (linesOf t) ≡ at (placeOf (length done)) (nextLine c h done t) more
+  unfolding nextLine lineJudged rowsFrom ended
+  open-line done [] more left e = absurd (omega arith)
+  open-line done (b ∷ bs) more left e = ap (restFrom c h done) (lines-open (b ∷ bs) e) ∙ rw (e, line-open (b ∷ bs) e) (go (tooMany c done (b ∷ bs)))
+    where
+      go : (u : Bool) → refused (cond u 3 1) (placeOf (length done)) ≡ at (placeOf (length done)) (cond u (bad 3) (bad 1)) more
+      go true = refl
+      go false = refl
 
-    one-of : (b : Bool) (n p : ℕ) (r : LineRead) (more : Line → Reading) → cond b (refused n p) (onward r more) ≡ onward (cond b (Bad n p) r) more
-    one-of true n p r more = refl
-    one-of false n p r more = refl
+  -- the first line, and then those after it
+  pub one-line :
+      (done : List Line) (t : Bytes) → 1 ≤ length t →
+      restFrom c h done (linesOf t) ≡ at (placeOf (length done)) (nextLine c h done t) (λ x. restFrom c h (done ++ (x ∷ [])) (linesOf (afterLine t)))
+  one-line done t left = go (isClosed t) refl
+    where
+      go : (b : Bool) → isClosed t ≡ b →
+          restFrom c h done (linesOf t) ≡ at (placeOf (length done)) (nextLine c h done t) (λ x. restFrom c h (done ++ (x ∷ [])) (linesOf (afterLine t)))
+      go true e = closed-line done t e
+      go false e = open-line done t (λ x. restFrom c h (done ++ (x ∷ [])) (linesOf (afterLine t))) left e
 
-    -- a line that no line feed closes
-    last-piece :
-        (text : Bytes) (done : List Line) (more : Line → Reading) → 1 ≤ length text →
-        readLines c h (text ∷ []) done ≡ onward (cond (tooMany c done text) (Bad 3 (placeOf (length done))) (Bad 1 (placeOf (length done)))) more
-    unfolding readLines
-    last-piece [] done more s = absurd (omega arith)
-    last-piece (b ∷ bs) done more s = one-of (tooMany c done (b ∷ bs)) 3 (placeOf (length done)) (Bad 1 (placeOf (length done))) more
-
-    unclosed :
-        (text : Bytes) (done : List Line) (more : Line → Reading) → 1 ≤ length text → before lineFeed text ≡ length text →
-        readLines c h (split lineFeed text) done ≡ onward (nextLine c h done text) more
-    unfolding nextLine
-    unclosed text done more some e =
-        rw (split-last lineFeed text e, le-ltb (before lineFeed text) (length text) (omega arith), take-all (before lineFeed text) text (omega arith))
-        (last-piece text done more some)
-
-    -- a line that a line feed closes
-    one-piece :
-        (p : Bytes) (ps : List Bytes) (done : List Line) → 1 ≤ length ps →
-        readLines c h (p ∷ ps) done
-        ≡ onward (cond (tooMany c done p) (Bad 3 (placeOf (length done))) (readLine c h done p)) (λ x. readLines c h ps (done ++ (x ∷ [])))
-    one-piece p ps done s =
-        FileLaws.closed c h p ps done s ∙ one-of (tooMany c done p) 3 (placeOf (length done)) (readLine c h done p) (λ x. readLines c h ps (done ++ (x ∷ [])))
-
-    closed :
-        (text : Bytes) (done : List Line) → before lineFeed text < length text →
-        readLines c h (split lineFeed text) done
-        ≡ onward (nextLine c h done text) (λ x. readLines c h (split lineFeed (drop (suc (before lineFeed text)) text)) (done ++ (x ∷ [])))
-    unfolding nextLine
-    closed text done l =
-        rw (split-cut lineFeed text l, lt-ltb (before lineFeed text) (length text) l)
-        (one-piece (take (before lineFeed text) text) (split lineFeed (drop (suc (before lineFeed text)) text)) done (split-some lineFeed (drop (suc (before lineFeed text)) text)))
-
-    -- the first line, and then those after it
-    pub one-line :
-        (text : Bytes) (done : List Line) → 1 ≤ length text →
-        readLines c h (split lineFeed text) done
-        ≡ onward (nextLine c h done text) (λ x. readLines c h (split lineFeed (drop (suc (before lineFeed text)) text)) (done ++ (x ∷ [])))
-    one-line text done some =
-        ⊎-elim (λ l. closed text done l)
-        (λ g. unclosed text done (λ x. readLines c h (split lineFeed (drop (suc (before lineFeed text)) text)) (done ++ (x ∷ []))) some (at-end text g))
-        (below-or-not (before lineFeed text) (length text))
-
-    -- a line that is taken is within the limit, and closed
-    pub line-taken : (text : Bytes) (done : List Line) {x : Line} → nextLine c h done text ≡ Good x → Taken c text done
-    unfolding nextLine
-    line-taken text done {x} e =
-        let P : LineRead → Type 0 = λ r. r ≡ Good x → Taken c text done in
-        by-test P (tooMany c done (take (before lineFeed text) text)) _ _ (λ over q. refused-taken 3 (placeOf (length done)) x q)
-        (λ few. by-test P (ltb (before lineFeed text) (length text)) _ _
-        (λ l q. record { below = ltb-true (length done) (c .limit) (under (ltb (length done) (c .limit)) _ few); ended = ltb-true (before lineFeed text) (length text) l })
-        (λ unended q. refused-taken 1 (placeOf (length done)) x q))
-        e
-
-    -- and is what its bytes read to
-    pub line-read : (text : Bytes) (done : List Line) {x : Line} → nextLine c h done text ≡ Good x → readLine c h done (take (before lineFeed text) text) ≡ Good x
-    unfolding nextLine
-    line-read text done {x} e =
-        let P : LineRead → Type 0 = λ r. r ≡ Good x → readLine c h done (take (before lineFeed text) text) ≡ Good x in
-        by-test P (tooMany c done (take (before lineFeed text) text)) _ _ (λ over q. refused-taken 3 (placeOf (length done)) x q)
-        (λ few. by-test P (ltb (before lineFeed text) (length text)) _ _ (λ l q. q) (λ unended q. refused-taken 1 (placeOf (length done)) x q))
-        e
+-- ---- the header line
+pub header-line :
+    (c : Context) (t : Bytes) → readText c t ≡ at 1 (headerJudged (c .grammar) t) (λ h. restFrom c h [] (linesOf (afterLine t)))
+unfolding readFile readLines headerJudged
+header-line c t = go (isClosed t) refl
+  where
+    go : (b : Bool) → isClosed t ≡ b → readLines (format c) (linesOf t) ≡ at 1 (cond b (readHeader (format c) (lineIn t)) (bad 1)) (λ h. restFrom c h [] (linesOf (afterLine t)))
+    go true e = ap (readLines (format c)) (lines-closed t e) ∙ on (linesOf (afterLine t))
+      where
+        on : (l : Lines) → readLines (format c) (closed (lineIn t) l) ≡ at 1 (readHeader (format c) (lineIn t)) (λ h. restFrom c h [] l)
+        on (lines ps rest) = refl
+    go false e = ap (readLines (format c)) (lines-open t e)

@@ -1,55 +1,30 @@
-// Reads a text into a table: the header line, then one line after another until the first that is refused.
+// Reads a text into a table in one pass: the header line, then one line after another until the first that is refused.
+use lines::LineRead;
+use lines::headers::HeaderRead;
 use model::Grammar;
 use model::Header;
-use model::Line;
 use model::Word;
 use text::Context;
-use text::HeaderRead;
-use text::LineRead;
 ghost use mathlib.Core.Path.{_≡_};
-ghost use mathlib.Core.List.{List};
+ghost use mathlib.Core.List.{[]};
 ghost use Prim.Native.Nat.{_≤_, _<_};
 ghost use lib.Dec.{T};
-ghost use lib.ListN.{length};
-ghost use Rattle.fields.specs.Pieces.{lineFeed, before};
+ghost use lib.ListN.{length, drop};
+ghost use Rattle.rows.specs.Lines.{linesOf};
+ghost use Rattle.model.specs.declared.Grammar.the-variants.{Circuit};
 ghost use Rattle.model.specs.Scales.{headerInRange};
-ghost use Rattle.model.specs.Files.{isCircuitWord};
-ghost use Rattle.text.specs.Files.{keptCount, readText, circuitContext, scheduleContext, eraseContext, RestFree};
-ghost use Rattle.text.specs.Words.{isKeptWord};
+ghost use Rattle.model.specs.Words.{hasWord};
+ghost use Rattle.text.specs.Tables.{RestFree};
+ghost use Rattle.text.specs.Files.{readText, circuitContext, scheduleContext, eraseContext};
 ghost use Rattle.tables.specs.Records.{freeRecords};
-ghost use Rattle.lines.specs.Kinds.{codes};
-ghost use Rattle.reader.specs.Reads.{pastLimits, nextLine, restOf, keptWith, readTable, readingOf};
+ghost use Rattle.reader.specs.Reads.{pastLimits, keptWith, restFrom, readTable, readingOf};
 
-// Whether a line has a circuit's word.
-fn is_circuit_word(line: Line) -> bool
-    ensures { λ r. ⌜ r ≡ isCircuitWord line ⌝ }
-{
-    match line {
-        Line::In => true,
-        Line::Const(_) => true,
-        Line::Neg(_) => true,
-        Line::Rot(_, _) => true,
-        Line::Add(_, _) => true,
-        Line::Mul(_, _) => true,
-        Line::Out(_) => true,
-        Line::Enc {
-            of: _,
-            scale: _,
-            level: _,
-        } => false,
-        Line::Rs(_, _) => false,
-        Line::Ms(_, _) => false,
-        Line::Us(_, _) => false,
-        Line::Free => false,
-    }
-}
-
-// How many lines have a circuit's word, with this one.
-fn kept_with(kept: usize, line: Line) -> usize
+// How many lines have a circuit's word, with one that has this word.
+fn kept_with(kept: usize, word: Word) -> usize
     requires { ⌜ kept < 1792 ⌝ }
-    ensures { λ r. ⌜ r ≡ keptWith kept line ⌝ }
+    ensures { λ r. ⌜ r ≡ keptWith kept (hasWord Circuit word) ⌝ }
 {
-    if is_circuit_word(line) {
+    if words::is_kept(word) {
         return kept + 1;
     }
     kept
@@ -57,49 +32,15 @@ fn kept_with(kept: usize, line: Line) -> usize
 
 // Whether a line with this word is one too many, after so many lines and so many with a circuit's word.
 fn past_limits(context: Context, count: usize, kept: usize, word: Word) -> bool
-    ensures { λ r. ⌜ r ≡ pastLimits context count kept (isKeptWord word) ⌝ }
+    ensures { λ r. ⌜ r ≡ pastLimits context count kept (hasWord Circuit word) ⌝ }
 {
     if context.limit <= count {
         return true;
     }
-    if kept < context.kept {
+    if kept < context.keptlimit {
         return false;
     }
-    lines::words::is_kept(word)
-}
-
-// The first line of what is left of a text, which is not empty: `end` bytes stand before its line feed, and lines of these kinds before it.
-fn next_line(
-    context: Context,
-    header: Header,
-    kinds: &[u8],
-    kept: usize,
-    rest: &[u8],
-    end: usize,
-) -> LineRead
-    requires { ⌜ T (headerInRange header) ⌝ }
-    requires { ⌜ length (now kinds) ≤ 1792 ⌝ }
-    requires { ⌜ end ≡ before lineFeed (now rest) ⌝ }
-    ensures { λ r. ⌜ ((done : List Line) → codes done ≡ now (kinds .entry) → kept ≡ keptCount done → r ≡ nextLine context header done (now (rest .entry))) ⌝ }
-{
-    let count = kinds.len();
-    let place = (count as u32) + 2;
-    let piece = &rest[..end];
-    let field = lines::front(piece);
-    let word = field.word;
-    if past_limits(context, count, kept, word) {
-        return LineRead::Bad {
-            number: 3,
-            place: place,
-        };
-    }
-    if end == rest.len() {
-        return LineRead::Bad {
-            number: 1,
-            place: place,
-        };
-    }
-    lines::read_line(context, header, kinds, piece, word, field.end)
+    words::is_kept(word)
 }
 
 // What reading a file comes to: with number and place 0 its header and how many lines there are, else a refusal, whose header and count mean
@@ -111,23 +52,38 @@ pub struct FileRead {
     pub count: usize,
 }
 
-// The lines after the header, into records that are free. Beside them stand the lines' kinds.
-fn read_lines(context: Context, header: Header, text: &[u8], records: &mut [[u16; 4]]) -> FileRead
+// The lines from `start` on, into records that are free.
+fn read_lines(
+    context: Context,
+    header: Header,
+    text: &[u8],
+    start: usize,
+    records: &mut [[u16; 4]],
+) -> FileRead
     requires { ⌜ T (headerInRange header) ⌝ }
     requires { ⌜ context .limit ≤ 1792 ⌝ }
+    requires { ⌜ start ≤ length (now text) ⌝ }
     requires { ⌜ now records ≡ freeRecords ⌝ }
-    ensures { λ r. ⌜ readingOf r (now (records .exit)) ≡ restOf context header (now (text .entry)) ⌝ }
+    ensures { λ r. ⌜ readingOf r (now (records .exit)) ≡ restFrom context header [] (linesOf (drop start (now (text .entry)))) ⌝ }
     ensures room { λ r. ⌜ RestFree (readTable r (now (records .exit))) ⌝ }
     ensures few { λ r. ⌜ r .count ≤ context .limit ⌝ }
 {
-    let mut kinds = [0u8; 1792];
+    let grammar = context.grammar;
     let mut count: usize = 0;
     let mut kept: usize = 0;
-    let mut at: usize = 0;
+    let mut at = start;
     while at < text.len() {
-        let rest = &text[at..];
-        let end = fields::find(rest, 10);
-        match next_line(context, header, &kinds[..count], kept, rest, end) {
+        let first = words::word_at(text, at);
+        let word = first.word;
+        if past_limits(context, count, kept, word) {
+            return FileRead {
+                number: 3,
+                place: (count as u32) + 2,
+                header,
+                count,
+            };
+        }
+        match lines::read_line(grammar, header, records, count, text, word, first.end) {
             LineRead::Bad { number, place } => {
                 return FileRead {
                     number,
@@ -136,12 +92,11 @@ fn read_lines(context: Context, header: Header, text: &[u8], records: &mut [[u16
                     count,
                 };
             }
-            LineRead::Good(line) => {
-                records[count] = tables::record_of(line);
-                kinds[count] = lines::kinds::line_code(line);
+            LineRead::Good { a, b, c, end } => {
+                records[count] = [tables::number_of(word), a, b, c];
                 count += 1;
-                kept = kept_with(kept, line);
-                at = at + end + 1;
+                kept = kept_with(kept, word);
+                at = end;
             }
         }
     }
@@ -179,14 +134,10 @@ pub fn read_file(context: Context, text: &[u8], records: &mut [[u16; 4]]) -> Fil
     ensures room { λ r. ⌜ RestFree (readTable r (now (records .exit))) ⌝ }
     ensures few { λ r. ⌜ r .count ≤ context .limit ⌝ }
 {
-    let end = fields::find(text, 10);
-    if end == text.len() {
-        return refusal(1, 1);
-    }
     let grammar = context.grammar;
-    match lines::headers::read_header(grammar, &text[..end]) {
+    match lines::headers::read_header(grammar, text) {
         HeaderRead::Bad { number, place } => refusal(number, place),
-        HeaderRead::Head(header) => read_lines(context, header, &text[end + 1..], records),
+        HeaderRead::Head { header, end } => read_lines(context, header, text, end, records),
     }
 }
 
@@ -200,7 +151,7 @@ pub fn read_circuit(text: &[u8], records: &mut [[u16; 4]]) -> FileRead
     let context = Context {
         grammar: Grammar::Circuit,
         limit: 256,
-        kept: 256,
+        keptlimit: 256,
     };
     read_file(context, text, records)
 }
@@ -215,7 +166,7 @@ pub fn read_schedule(text: &[u8], records: &mut [[u16; 4]]) -> FileRead
     let context = Context {
         grammar: Grammar::Schedule,
         limit: 1792,
-        kept: 1792,
+        keptlimit: 1792,
     };
     read_file(context, text, records)
 }
@@ -230,7 +181,7 @@ pub fn read_erase(text: &[u8], records: &mut [[u16; 4]]) -> FileRead
     let context = Context {
         grammar: Grammar::Schedule,
         limit: 1792,
-        kept: 256,
+        keptlimit: 256,
     };
     read_file(context, text, records)
 }

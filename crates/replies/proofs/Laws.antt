@@ -16,8 +16,8 @@ use Rattle.model.specs.declared.Header.{Header}
 use Rattle.model.specs.declared.Answer.{Answer}
 use Rattle.model.specs.declared.Answer.the-variants.{Done, Level, Refused}
 use Rattle.model.specs.Refused.{answerFile}
-use Rattle.text.specs.Files.{fileOf}
-use Rattle.text.specs.Write.{fileText}
+use Rattle.text.specs.Tables.{fileOf}
+use Rattle.text.specs.Files.{fileText}
 use Rattle.text.proofs.Tables.{count-length}
 use Rattle.text.proofs.Most.{text-most}
 use Rattle.tables.specs.Records.{lineOf, held}
@@ -41,7 +41,7 @@ module _ (file : ℕ) (a : Answer) where
   pub answer-done : (r : Reply) → a ≡ Done → r ≡ replyOf (refuses 0 0 0) → r ≡ replyOf (answered file a)
   answer-done r e q = rw e q
 
-  pub answer-level : (l : ℕ) → a ≡ Level l → replyOf (Outcome.level l) ≡ replyOf (answered file a)
+  pub answer-level : (l : ℕ) → a ≡ Level l → replyOf (Outcome.fitsAt l) ≡ replyOf (answered file a)
   answer-level l e = rw e
 
   pub answer-refused : (n p f : ℕ) (r : Reply) → a ≡ Refused n p → f ≡ answerFile file (Refused n p) → r ≡ replyOf (refuses n f p) → r ≡ replyOf (answered file a)
@@ -80,7 +80,9 @@ module _ (text out : Bytes) (needed : ℕ) (same : leb needed (length out) ≡ l
     pub fits : length text ≤ length out
     fits = leb→le (length text) (length out) (subst T (sym test) tt)
 
-    pub all-written : (written : ℕ) (after : Bytes) → Written out text written after → Replied (writes text) out (record { number = 0; file = 0; place = 0; length = written }) after
+    pub all-written : (written : ℕ) (after : Bytes) → Written out text written after
+        → Replied (writes text) out (record { number = 0; file = 0; place = 0; length = written }) after
     all-written written after w = record { reply = rw (test, w .counted); bytes = rw test (w .bytes) }
 
-pub ruleset reply-laws = (needs, no-place, other-circuit, its-own, answer-done, answer-level, answer-refused, room-for-all, counted-through, too-short, fits, length-fits, all-written)
+pub ruleset reply-laws =
+    (needs, no-place, other-circuit, its-own, answer-done, answer-level, answer-refused, room-for-all, counted-through, too-short, fits, length-fits, all-written)

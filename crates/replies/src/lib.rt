@@ -10,8 +10,8 @@ ghost use lib.ListN.{length};
 ghost use Rattle.model.specs.Refused.{answerFile};
 ghost use Rattle.model.specs.declared.Answer.the-variants.{Refused};
 ghost use Rattle.tables.specs.Records.{held};
-ghost use Rattle.text.specs.Files.{fileOf};
-ghost use Rattle.text.specs.Write.{fileText};
+ghost use Rattle.text.specs.Tables.{fileOf};
+ghost use Rattle.text.specs.Files.{fileText};
 ghost use Rattle.services.specs.Outcomes.{writes, refuses, answered, replyOf, Replied};
 
 pub fn refusal(number: u32, file: u32, place: u32) -> Reply

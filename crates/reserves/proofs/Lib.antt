@@ -1,6 +1,6 @@
 -- The laws that the proofs of the functions cite.
 pub mod Readings
-pub mod PlacementLaws
+pub mod ChoiceLaws
 pub mod WordLaws
 pub mod Bounds
 pub mod LineLaws

@@ -17,8 +17,8 @@ use Rattle.model.specs.declared.Line.the-variants.{In, Const, Neg, Rot, Add, Mu
 use Rattle.model.specs.declared.Grammar.the-variants.{Circuit}
 use Rattle.model.specs.declared.Best.{Best}
 use Rattle.model.specs.declared.Best.the-variants as Bests
-use Rattle.model.specs.declared.Known.{Known}
-use Rattle.model.specs.Files.{Table, tableLines, TableFormed}
+use Rattle.tables.specs.declared.BestEntry.{BestEntry}
+use Rattle.text.specs.Tables.{Table, tableLines, TableFormed}
 use Rattle.model.specs.Machine.{Step, goes, stops, Run, finished, stopped, step, countIn, runFrom, run}
 use Rattle.model.specs.Plan.{bestMachine}
 use Rattle.model.proofs.Lists.{found-at, none-past}
@@ -37,7 +37,7 @@ use Rattle.reserves.specs.declared.Placing.the-variants.{Goes, Stops}
 use Rattle.reserves.proofs.Bounds.{Numbered, constant-small, after-sound}
 
 -- what the code's reading of an array would give past its end: the first variant
-abbrev pub bare : Known
+abbrev pub bare : BestEntry
 bare = record { best = Bests.Constant }
 
 -- ---- the entries
@@ -47,30 +47,31 @@ bare-all (suc n) zero = refl
 bare-all (suc n) (suc k) = bare-all n k
 
 pub bare-small : (k : ℕ) → SmallBest (getD (replicate 256 bare) k bare .best)
-bare-small k = subst (λ (e : Known). SmallBest (e .best)) (sym (bare-all 256 k)) constant-small
+bare-small k = subst (λ (e : BestEntry). SmallBest (e .best)) (sym (bare-all 256 k)) constant-small
 
-stored-small : (known : List Known) (i : ℕ) (e : Known) → ((k : ℕ) → SmallBest (getD known k bare .best)) → SmallBest (e .best) → (k : ℕ) → SmallBest (getD (set known i e) k bare .best)
+stored-small : (known : List BestEntry) (i : ℕ) (e : BestEntry) → ((k : ℕ) → SmallBest (getD known k bare .best)) → SmallBest (e .best) → (k : ℕ)
+    → SmallBest (getD (set known i e) k bare .best)
 stored-small [] i e s p k = s k
 stored-small (x ∷ known) zero e s p zero = p
 stored-small (x ∷ known) zero e s p (suc k) = s (suc k)
 stored-small (x ∷ known) (suc i) e s p zero = s zero
 stored-small (x ∷ known) (suc i) e s p (suc k) = stored-small known i e (λ j. s (suc j)) p k
 
-bests-long : (known : List Known) (i : ℕ) → i ≤ length known → length (bestsOf i known) ≡ i
+bests-long : (known : List BestEntry) (i : ℕ) → i ≤ length known → length (bestsOf i known) ≡ i
 bests-long known i k = rw length-map (length-take-le i known k)
 
-bests-more : (known : List Known) (i : ℕ) (e : Known) → i < length known → bestsOf (i + 1) (set known i e) ≡ bestsOf i known ++ (e .best ∷ [])
-bests-more known i e k = rw (add-one i, take-suc-set known i e k) (map-append (λ (e : Known). e .best) (take i known) (e ∷ []))
+bests-more : (known : List BestEntry) (i : ℕ) (e : BestEntry) → i < length known → bestsOf (i + 1) (set known i e) ≡ bestsOf i known ++ (e .best ∷ [])
+bests-more known i e k = rw (add-one i, take-suc-set known i e k) (map-append (λ (e : BestEntry). e .best) (take i known) (e ∷ []))
 
 -- an operand's entry is what the line that it names has
-entry-found : (known : List Known) (i a : ℕ) → i ≤ length known → entryOf a i (getD known (min a i) bare) ≡ getElem? (bestsOf i known) a
+entry-found : (known : List BestEntry) (i a : ℕ) → i ≤ length known → entryOf a i (getD known (min a i) bare) ≡ getElem? (bestsOf i known) a
 entry-found known i a k = ⊎-elim (λ l. before l) (λ l. past l) (below-or-not a i)
   where
     before : a < i → entryOf a i (getD known (min a i) bare) ≡ getElem? (bestsOf i known) a
     before l =
         let here : min a i ≡ a = omega arith in
         rw (here, lt-ltb a i l, found-at (bestsOf i known) a Bests.Constant (rw (bests-long known i k) l))
-        (ap some (sym (List·getD-map (λ (e : Known). e .best) (take i known) a bare ∙ ap (λ (e : Known). e .best) (getD-take i known a bare l))))
+        (ap some (sym (List·getD-map (λ (e : BestEntry). e .best) (take i known) a bare ∙ ap (λ (e : BestEntry). e .best) (getD-take i known a bare l))))
 
     past : i ≤ a → entryOf a i (getD known (min a i) bare) ≡ getElem? (bestsOf i known) a
     past l = rw (le-ltb a i l, none-past (bestsOf i known) a (rw (bests-long known i k) l))
@@ -106,7 +107,7 @@ module _ (h : Header) (ins : ℕ) (held : List Best) (x : Line) (xs : List Line)
       same (stops e) = refl
 
 -- ---- the loop's invariant: with what the first i lines have and the other lines left, the walk comes to what the whole circuit comes to
-pub record Walking (h : Header) (t : Table) (known : List Known) (i : ℕ) : Type 0 where
+pub record Walking (h : Header) (t : Table) (known : List BestEntry) (i : ℕ) : Type 0 where
   pub ranges : HeaderRanges h
   pub few : t .count ≤ 256
   pub room : length (t .lines) ≡ 1792
@@ -130,7 +131,8 @@ circuit-ranges t f =
       top-most = facts .top .most;
     }
 
-pub walk-start : (h : Header) (t : Table) (known : List Known) → HeaderRanges h → TableFormed Circuit t → length known ≡ 256 → ((k : ℕ) → SmallBest (getD known k bare .best)) → Walking h t known 0
+pub walk-start : (h : Header) (t : Table) (known : List BestEntry) → HeaderRanges h → TableFormed Circuit t → length known ≡ 256 → ((k : ℕ) → SmallBest (getD known k bare .best))
+    → Walking h t known 0
 walk-start h t known g f wide small =
     record {
       ranges = g;
@@ -143,7 +145,7 @@ walk-start h t known g f wide small =
       left = refl;
     }
 
-module _ {h : Header} {t : Table} {known : List Known} {i : ℕ} (w : Walking h t known i) where
+module _ {h : Header} {t : Table} {known : List BestEntry} {i : ℕ} (w : Walking h t known i) where
   -- every line is walked
   pub walk-done : t .count ≤ i → run (bestMachine h) (tableLines t) ≡ finished (bestsOf (t .count) known)
   walk-done k =
@@ -154,18 +156,19 @@ module _ {h : Header} {t : Table} {known : List Known} {i : ℕ} (w : Walking h 
   walk-finished k = sym (walk-done k)
 
 -- a line that is left has a record
-pub record-below : {h header : Header} (records : List (List ℕ)) {count : ℕ} {known : List Known} {i : ℕ} → Walking h (held header records count) known i → i < count → i < length records
+pub record-below : {h header : Header} (records : List (List ℕ)) {count : ℕ} {known : List BestEntry} {i : ℕ} → Walking h (held header records count) known i → i < count
+    → i < length records
 record-below records w l = omega (arith, w .few, w .room, length-map records lineOf)
 
 -- an operand's place is one of the entries, and every entry is small
-pub place-below : {h : Header} {t : Table} {known : List Known} {i : ℕ} → Walking h t known i → i < t .count → (a k : ℕ) → a ≡ min k i → a < 256
+pub place-below : {h : Header} {t : Table} {known : List BestEntry} {i : ℕ} → Walking h t known i → i < t .count → (a k : ℕ) → a ≡ min k i → a < 256
 place-below w l a k e = omega (arith, w .few)
 
-pub entry-small : {h : Header} {t : Table} {known : List Known} {i : ℕ} → Walking h t known i → (a : ℕ) → SmallBest (getD known a bare .best)
+pub entry-small : {h : Header} {t : Table} {known : List BestEntry} {i : ℕ} → Walking h t known i → (a : ℕ) → SmallBest (getD known a bare .best)
 entry-small w a = w .small a
 
 -- one line x, with the entries of its operands at a and b
-module _ {h : Header} {t : Table} {known : List Known} {i : ℕ} (w : Walking h t known i) (l : i < t .count) (x : Line) (ex : x ≡ getD (t .lines) i Free)
+module _ {h : Header} {t : Table} {known : List BestEntry} {i : ℕ} (w : Walking h t known i) (l : i < t .count) (x : Line) (ex : x ≡ getD (t .lines) i Free)
     (a b : ℕ) (ea : a ≡ min (firstOperand x) i) (eb : b ≡ min (secondOperand x) i)
     (r : Placing) (er : stepOf r ≡ bestAfter h x i (getD known a bare) (getD known b bare)) where
   looked : (c k : ℕ) → c ≡ min k i → entryOf k i (getD known c bare) ≡ getElem? (bestsOf i known) k
@@ -181,7 +184,8 @@ module _ {h : Header} {t : Table} {known : List Known} {i : ℕ} (w : Walking h 
   next : onward h (w .ins) (bestsOf i known) x (drop (i + 1) (tableLines t)) i (stepOf r) ≡ run (bestMachine h) (tableLines t)
   next =
       first-step h (w .ins) (bestsOf i known) x (drop (i + 1) (tableLines t)) i (stepOf r) (sym (bests-long known i (omega (arith, w .few, w .wide)))) stepped
-      ∙ ap (runFrom (bestMachine h) (w .ins) (bestsOf i known)) (ap (λ (y : Line). y ∷ drop (i + 1) (tableLines t)) ex ∙ sym (next-line (t .lines) (t .count) (w .room) (omega (arith, w .few)) i l)) ∙ w .left
+      ∙ ap (runFrom (bestMachine h) (w .ins) (bestsOf i known))
+      (ap (λ (y : Line). y ∷ drop (i + 1) (tableLines t)) ex ∙ sym (next-line (t .lines) (t .count) (w .room) (omega (arith, w .few)) i l)) ∙ w .left
 
   sound : Outcome Numbered SmallBest (stepOf r)
   sound = rw er (after-sound h (w .ranges) x i (getD known a bare) (getD known b bare) (w .small a) (w .small b))

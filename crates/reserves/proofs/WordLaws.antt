@@ -6,13 +6,13 @@ use borrow.Author.Needs.{needs}
 use lib.IntN.{ℤ, pos}
 use lib.Signed.{mag, leZ, ltZ}
 use Rattle.model.specs.declared.Header.{Header}
-use Rattle.model.specs.declared.Placement.{Placement}
+use Rattle.model.specs.declared.Choice.{Choice}
 use Rattle.model.specs.declared.Best.{Best}
 use Rattle.model.specs.declared.Best.the-variants as Bests
-use Rattle.model.specs.Scales.{floor}
+use Rattle.model.specs.Scales.{headroom}
 use Rattle.model.specs.Machine.{Step, goes, stops}
-use Rattle.model.specs.Plan.{smaller, placeAt, placeTimesConstant, placeConstantTimes, placeProduct, placed, bestMachine}
-use Rattle.model.proofs.Floor.{floor-is}
+use Rattle.model.specs.Plan.{smaller, unchangedChoice, timesConstantChoice, constantTimesChoice, productChoice, unlessTooFew, bestMachine}
+use Rattle.model.proofs.Headroom.{headroom-is}
 use Rattle.model.proofs.Tests.{by-test}
 use Rattle.reserves.specs.Ranges.{Small, SmallOperand}
 use Rattle.reserves.specs.Steps.{stepOf, found, onOne, onTwo}
@@ -22,19 +22,19 @@ use Rattle.reserves.specs.declared.Placing.{Placing}
 use Rattle.reserves.proofs.Readings.{held, result-held, small-held, held-small}
 
 -- ---- below zero
-module _ (h : Header) (p : Placement) (f : mag (p .reserve) < 2147483648) where
+module _ (h : Header) (p : Choice) (f : mag (p .reserve) < 2147483648) where
   -- the least reserve is 0
-  below : ltZ (held (p .reserve)) (pos 0) ≡ ltZ (p .reserve) (pos (floor h))
-  below = rw (result-held (p .reserve) f, floor-is h)
+  below : ltZ (held (p .reserve)) (pos 0) ≡ ltZ (p .reserve) (pos (headroom h))
+  below = rw (result-held (p .reserve) f, headroom-is h)
 
-  pub too-low : ltZ (held (p .reserve)) (pos 0) ≡ true → stops 6 ≡ placed h p
+  pub too-low : ltZ (held (p .reserve)) (pos 0) ≡ true → stops 6 ≡ unlessTooFew h p
   too-low t = rw (sym below ∙ t)
 
-  pub not-too-low : ltZ (held (p .reserve)) (pos 0) ≡ false → goes (Bests.Ciphertext p) ≡ placed h p
+  pub not-too-low : ltZ (held (p .reserve)) (pos 0) ≡ false → goes (Bests.Ciphertext p) ≡ unlessTooFew h p
   not-too-low t = rw (sym below ∙ t)
 
 -- ---- the reserves of operands
-pub first-small : (p : Placement) → Small (p .reserve) → Small (held (p .reserve))
+pub first-small : (p : Choice) → Small (p .reserve) → Small (held (p .reserve))
 first-small p s = held-small (p .reserve) s
 
 pub smaller-small : (r r′ z : ℤ) → Small r → Small r′ → mag z < 2147483648 → z ≡ smaller (held r) (held r′) → Small (held z)
@@ -42,45 +42,45 @@ smaller-small r r′ z s s′ ok e =
     rw (result-held z ok, e, small-held r s, small-held r′ s′)
     (by-test Small (leZ r r′) r r′ (λ t. s) (λ t. s′))
 
-module _ (o : Operand) (s : SmallOperand o) (p : Placement) (e : o ≡ Ciphertext p) where
+module _ (o : Operand) (s : SmallOperand o) (p : Choice) (e : o ≡ Ciphertext p) where
   pub reserve-small : Small (p .reserve)
   reserve-small = s .reserve p e
 
   pub operand-small : Small (held (p .reserve))
   operand-small = held-small (p .reserve) reserve-small
 
--- ---- a placement that was tested, from what was read of the reserves
-module _ (h : Header) (x : Placing) (q : Placement) (f : stepOf x ≡ placed h q) where
-  from-one : (place : ℤ → Placement) (r : ℤ) → Small r → q ≡ place (held r) → stepOf x ≡ placed h (place r)
-  from-one place r s i = f ∙ ap (placed h) (i ∙ ap place (small-held r s))
+-- ---- a choice that was tested, from what was read of the reserves
+module _ (h : Header) (x : Placing) (q : Choice) (f : stepOf x ≡ unlessTooFew h q) where
+  from-one : (place : ℤ → Choice) (r : ℤ) → Small r → q ≡ place (held r) → stepOf x ≡ unlessTooFew h (place r)
+  from-one place r s i = f ∙ ap (unlessTooFew h) (i ∙ ap place (small-held r s))
 
   -- one ciphertext
-  module _ (o : Operand) (s : SmallOperand o) (p : Placement) (e : o ≡ Ciphertext p) where
-    pub neg-is : q ≡ placeAt h (held (p .reserve)) → stepOf x ≡ onOne (bestMachine h .neg) (found o)
-    neg-is i = rw e (from-one (placeAt h) (p .reserve) (s .reserve p e) i)
+  module _ (o : Operand) (s : SmallOperand o) (p : Choice) (e : o ≡ Ciphertext p) where
+    pub neg-is : q ≡ unchangedChoice h (held (p .reserve)) → stepOf x ≡ onOne (bestMachine h .neg) (found o)
+    neg-is i = rw e (from-one (unchangedChoice h) (p .reserve) (s .reserve p e) i)
 
-    pub constant-mul : q ≡ placeConstantTimes h (held (p .reserve)) → stepOf x ≡ onOne (bestMachine h .mul Bests.Constant) (found o)
-    constant-mul i = rw e (from-one (placeConstantTimes h) (p .reserve) (s .reserve p e) i)
+    pub constant-mul : q ≡ constantTimesChoice h (held (p .reserve)) → stepOf x ≡ onOne (bestMachine h .mul Bests.Constant) (found o)
+    constant-mul i = rw e (from-one (constantTimesChoice h) (p .reserve) (s .reserve p e) i)
 
   -- a ciphertext and then a constant
-  module _ (p : Placement) (s : Small (p .reserve)) (o : Operand) (e : o ≡ Constant) where
-    pub add-constant : q ≡ placeAt h (held (p .reserve)) → stepOf x ≡ onOne (bestMachine h .add (Bests.Ciphertext p)) (found o)
-    add-constant i = rw e (from-one (placeAt h) (p .reserve) s i)
+  module _ (p : Choice) (s : Small (p .reserve)) (o : Operand) (e : o ≡ Constant) where
+    pub add-constant : q ≡ unchangedChoice h (held (p .reserve)) → stepOf x ≡ onOne (bestMachine h .add (Bests.Ciphertext p)) (found o)
+    add-constant i = rw e (from-one (unchangedChoice h) (p .reserve) s i)
 
-    pub mul-constant : q ≡ placeTimesConstant h (held (p .reserve)) → stepOf x ≡ onOne (bestMachine h .mul (Bests.Ciphertext p)) (found o)
-    mul-constant i = rw e (from-one (placeTimesConstant h) (p .reserve) s i)
+    pub mul-constant : q ≡ timesConstantChoice h (held (p .reserve)) → stepOf x ≡ onOne (bestMachine h .mul (Bests.Ciphertext p)) (found o)
+    mul-constant i = rw e (from-one (timesConstantChoice h) (p .reserve) s i)
 
   -- two ciphertexts
-  module _ (p : Placement) (s : Small (p .reserve)) (o : Operand) (s′ : SmallOperand o) (p′ : Placement) (e : o ≡ Ciphertext p′) where
-    pub add-both : (z : ℤ) → mag z < 2147483648 → z ≡ smaller (held (p .reserve)) (held (p′ .reserve)) → q ≡ placeAt h (held z)
+  module _ (p : Choice) (s : Small (p .reserve)) (o : Operand) (s′ : SmallOperand o) (p′ : Choice) (e : o ≡ Ciphertext p′) where
+    pub add-both : (z : ℤ) → mag z < 2147483648 → z ≡ smaller (held (p .reserve)) (held (p′ .reserve)) → q ≡ unchangedChoice h (held z)
         → stepOf x ≡ onOne (bestMachine h .add (Bests.Ciphertext p)) (found o)
     add-both z ok k i = rw e
-        (f ∙ ap (placed h) (i ∙ ap (placeAt h) (result-held z ok ∙ k ∙ ap₂ smaller (small-held (p .reserve) s) (small-held (p′ .reserve) (s′ .reserve p′ e)))))
+        (f ∙ ap (unlessTooFew h) (i ∙ ap (unchangedChoice h) (result-held z ok ∙ k ∙ ap₂ smaller (small-held (p .reserve) s) (small-held (p′ .reserve) (s′ .reserve p′ e)))))
 
-    pub mul-both : q ≡ placeProduct h (held (p .reserve)) (held (p′ .reserve)) → stepOf x ≡ onOne (bestMachine h .mul (Bests.Ciphertext p)) (found o)
-    mul-both i = rw e (f ∙ ap (placed h) (i ∙ ap₂ (placeProduct h) (small-held (p .reserve) s) (small-held (p′ .reserve) (s′ .reserve p′ e))))
+    pub mul-both : q ≡ productChoice h (held (p .reserve)) (held (p′ .reserve)) → stepOf x ≡ onOne (bestMachine h .mul (Bests.Ciphertext p)) (found o)
+    mul-both i = rw e (f ∙ ap (unlessTooFew h) (i ∙ ap₂ (productChoice h) (small-held (p .reserve) s) (small-held (p′ .reserve) (s′ .reserve p′ e))))
 
-pub out-is : (h : Header) (o : Operand) (p : Placement) → o ≡ Ciphertext p → goes (Bests.Ciphertext p) ≡ onOne (bestMachine h .out) (found o)
+pub out-is : (h : Header) (o : Operand) (p : Choice) → o ≡ Ciphertext p → goes (Bests.Ciphertext p) ≡ onOne (bestMachine h .out) (found o)
 out-is h o p e = rw e
 
 -- ---- by the first operand
@@ -100,10 +100,12 @@ module _ (h : Header) (o o′ : Operand) (x : Placing) where
   pub mul-first-constant : o ≡ Constant → stepOf x ≡ onOne (bestMachine h .mul Bests.Constant) (found o′) → stepOf x ≡ onTwo (bestMachine h .mul) (found o) (found o′)
   mul-first-constant e f = rw e f
 
-  pub add-first-ciphertext : (p : Placement) → o ≡ Ciphertext p → stepOf x ≡ onOne (bestMachine h .add (Bests.Ciphertext p)) (found o′) → stepOf x ≡ onTwo (bestMachine h .add) (found o) (found o′)
+  pub add-first-ciphertext : (p : Choice) → o ≡ Ciphertext p → stepOf x ≡ onOne (bestMachine h .add (Bests.Ciphertext p)) (found o′)
+      → stepOf x ≡ onTwo (bestMachine h .add) (found o) (found o′)
   add-first-ciphertext p e f = rw e f
 
-  pub mul-first-ciphertext : (p : Placement) → o ≡ Ciphertext p → stepOf x ≡ onOne (bestMachine h .mul (Bests.Ciphertext p)) (found o′) → stepOf x ≡ onTwo (bestMachine h .mul) (found o) (found o′)
+  pub mul-first-ciphertext : (p : Choice) → o ≡ Ciphertext p → stepOf x ≡ onOne (bestMachine h .mul (Bests.Ciphertext p)) (found o′)
+      → stepOf x ≡ onTwo (bestMachine h .mul) (found o) (found o′)
   mul-first-ciphertext p e f = rw e f
 
 pub ruleset words = (

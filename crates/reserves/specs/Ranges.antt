@@ -4,7 +4,7 @@ use mathlib.Core.Path.{_≡_}
 use lib.IntN.{ℤ, pos}
 use lib.Signed.{_≤ℤ_}
 use Rattle.model.specs.declared.Header.{Header}
-use Rattle.model.specs.declared.Placement.{Placement}
+use Rattle.model.specs.declared.Choice.{Choice}
 use Rattle.model.specs.declared.Best.{Best}
 use Rattle.model.specs.declared.Best.the-variants as Bests
 use Rattle.reserves.specs.declared.Operand.{Operand}
@@ -26,7 +26,7 @@ pub record Small (r : ℤ) : Type 0 where
 
 -- the same of what a line has, and of what an operand has
 pub record SmallBest (b : Best) : Type 0 where
-  pub reserve : (p : Placement) → b ≡ Bests.Ciphertext p → Small (p .reserve)
+  pub reserve : (p : Choice) → b ≡ Bests.Ciphertext p → Small (p .reserve)
 
 pub record SmallOperand (o : Operand) : Type 0 where
-  pub reserve : (p : Placement) → o ≡ Operands.Ciphertext p → Small (p .reserve)
+  pub reserve : (p : Choice) → o ≡ Operands.Ciphertext p → Small (p .reserve)

@@ -8,7 +8,7 @@ use Rattle.model.specs.declared.Line.{Line}
 use Rattle.model.specs.declared.Line.the-variants.{In, Const, Neg, Rot, Add, Mul, Out, Enc, Rs, Ms, Us, Free}
 use Rattle.model.specs.declared.Best.{Best}
 use Rattle.model.specs.declared.Best.the-variants as Bests
-use Rattle.model.specs.declared.Known.{Known}
+use Rattle.tables.specs.declared.BestEntry.{BestEntry}
 use Rattle.tables.specs.Operands.{firstOperand, secondOperand}
 use Rattle.model.specs.Machine.{Step, goes, stops, andThen, orAbsent}
 use Rattle.model.specs.Plan.{bestMachine}
@@ -51,9 +51,9 @@ bestOf h (Us a b) first second = onOne (λ x. bestMachine h .us x b) first
 bestOf h Free first second = stops (bestMachine h .absent)
 
 -- what operand a has after `count` lines, where its entry is known
-abbrev pub entryOf : ℕ → ℕ → Known → Option Best
+abbrev pub entryOf : ℕ → ℕ → BestEntry → Option Best
 entryOf a count known = cond (ltb a count) (some (known .best)) none
 
 -- the line after `count` lines, where the entries of its operands are known
-unfoldable pub bestAfter : Header → Line → ℕ → Known → Known → Step Best ℕ
+unfoldable pub bestAfter : Header → Line → ℕ → BestEntry → BestEntry → Step Best ℕ
 bestAfter h x count first second = bestOf h x (entryOf (firstOperand x) count first) (entryOf (secondOperand x) count second)

@@ -1,17 +1,17 @@
 // The best reserve of each line of a circuit.
-pub mod placements;
-pub mod words;
+pub mod best_steps;
+pub mod choices;
 
 use model::Best;
+use model::Choice;
 use model::Header;
-use model::Known;
 use model::Line;
-use model::Placement;
+use tables::BestEntry;
 ghost use mathlib.Core.Path.{_≡_};
 ghost use Prim.Native.Nat.{min};
 ghost use lib.ListN.{length};
 ghost use Rattle.model.specs.declared.Grammar.the-variants.{Circuit};
-ghost use Rattle.model.specs.Files.{TableFormed};
+ghost use Rattle.text.specs.Tables.{TableFormed};
 ghost use Rattle.model.specs.Machine.{run};
 ghost use Rattle.model.specs.Plan.{bestMachine};
 ghost use Rattle.reserves.specs.Ranges.{HeaderRanges, SmallBest, SmallOperand};
@@ -24,7 +24,7 @@ ghost use Rattle.reserves.specs.Walks.{walkOf};
 pub enum Operand {
     Absent,
     Constant,
-    Ciphertext(Placement),
+    Ciphertext(Choice),
 }
 
 // What a line comes to: the best that it then has, or a stop with its number.
@@ -41,27 +41,27 @@ pub fn best_of(header: Header, line: Line, first: Operand, second: Operand) -> P
     ensures { λ r. ⌜ stepOf r ≡ bestOf header line (found first) (found second) ⌝ }
 {
     match line {
-        Line::In => words::placed_or_refused(header, placements::place_input(header)),
+        Line::In => best_steps::unless_too_few(header, choices::input_choice(header)),
         Line::Const(_) => Placing::Goes(Best::Constant),
-        Line::Neg(_) => words::best_neg(header, first),
-        Line::Rot(_, _) => words::best_neg(header, first),
-        Line::Add(_, _) => words::best_add(header, first, second),
-        Line::Mul(_, _) => words::best_mul(header, first, second),
-        Line::Out(_) => words::best_out(header, first),
+        Line::Neg(_) => best_steps::best_neg(header, first),
+        Line::Rot(_, _) => best_steps::best_neg(header, first),
+        Line::Add(_, _) => best_steps::best_add(header, first, second),
+        Line::Mul(_, _) => best_steps::best_mul(header, first, second),
+        Line::Out(_) => best_steps::best_out(header, first),
         Line::Enc {
             of: _,
             scale: _,
             level: _,
-        } => words::no_circuit_word(first),
-        Line::Rs(_, _) => words::no_circuit_word(first),
-        Line::Ms(_, _) => words::no_circuit_word(first),
-        Line::Us(_, _) => words::no_circuit_word(first),
+        } => best_steps::no_circuit_word(first),
+        Line::Rs(_, _) => best_steps::no_circuit_word(first),
+        Line::Ms(_, _) => best_steps::no_circuit_word(first),
+        Line::Us(_, _) => best_steps::no_circuit_word(first),
         Line::Free => Placing::Stops(4),
     }
 }
 
 // What an operand has after `count` lines, where its entry is known.
-fn operand_of(number: u16, count: usize, known: Known) -> Operand
+fn operand_of(number: u16, count: usize, known: BestEntry) -> Operand
     ensures { λ r. ⌜ found r ≡ entryOf number count known ⌝ }
 {
     if count <= (number as usize) {
@@ -75,7 +75,13 @@ fn operand_of(number: u16, count: usize, known: Known) -> Operand
 }
 
 // The line after `count` lines, where the entries of its operands are known. Past those of the lines before, an entry is not asked.
-pub fn best_after(header: Header, line: Line, count: usize, first: Known, second: Known) -> Placing
+pub fn best_after(
+    header: Header,
+    line: Line,
+    count: usize,
+    first: BestEntry,
+    second: BestEntry,
+) -> Placing
     requires { ⌜ HeaderRanges header ⌝ }
     requires { ⌜ SmallBest (first .best) ⌝ }
     requires { ⌜ SmallBest (second .best) ⌝ }
@@ -111,7 +117,7 @@ pub fn second_place(line: Line, count: usize) -> usize
 pub struct Walked {
     pub number: u32,
     pub line: u32,
-    pub known: [Known; 256],
+    pub known: [BestEntry; 256],
 }
 
 // The best of each line of a circuit, or the first line with a best reserve below zero.
@@ -120,7 +126,7 @@ pub fn best_lines(header: Header, circuit: &[[u16; 4]], count: usize) -> Walked
     ensures { λ r. ⌜ walkOf r count ≡ run (bestMachine header) (linesHeld (now (circuit .entry)) count) ⌝ }
     ensures wide { λ r. ⌜ length (r .known) ≡ 256 ⌝ }
 {
-    let mut known = [Known {
+    let mut known = [BestEntry {
         best: Best::Constant,
     }; 256];
     let mut i: usize = 0;
@@ -137,7 +143,7 @@ pub fn best_lines(header: Header, circuit: &[[u16; 4]], count: usize) -> Walked
                 };
             }
             Placing::Goes(best) => {
-                known[i] = Known { best: best };
+                known[i] = BestEntry { best: best };
                 i += 1;
             }
         }

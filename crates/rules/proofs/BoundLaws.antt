@@ -15,10 +15,10 @@ use mir.ValLaws.{toZ-ofZ}
 use Rattle.ints.specs.Parts.{positive, negative}
 use Rattle.model.specs.declared.Header.{Header}
 use Rattle.model.specs.declared.Found.{Found}
-use Rattle.model.specs.Scales.{headerInRange, floor}
+use Rattle.model.specs.Scales.{headerInRange, headroom}
 use Rattle.model.specs.Machine.{goes, stops}
 use Rattle.model.specs.Refused.{bounded}
-use Rattle.model.proofs.Floor.{floor-is}
+use Rattle.model.proofs.Headroom.{headroom-is}
 use Rattle.model.proofs.Tests.{header-facts}
 use Rattle.model.proofs.Bounded.{Tested, tested}
 use Rattle.rules.specs.declared.bounds.Ruled.{Ruled}
@@ -28,7 +28,7 @@ use Rattle.rules.proofs.SignedNumbers.{held, small-fits, held-small, si
 
 -- ---- the least reserve: no other law says what it is
 pub reserve-is : (h : Header) → LeastReserve h (pos 0)
-reserve-is h = record { is = ap pos (sym (floor-is h)); small = omega (arith, floor-is h) }
+reserve-is h = record { is = ap pos (sym (headroom-is h)); small = omega (arith, headroom-is h) }
 
 -- ---- the waterline
 module _ (h : Header) (ranged : T (headerInRange h)) where
@@ -44,14 +44,14 @@ module _ (h : Header) (ranged : T (headerInRange h)) where
 -- ---- the modulus
 module _ (h : Header) (ranged : T (headerInRange h)) (s l : ℤ) (reach : InReach s l) where
   module _ (z : ℤ) (least : LeastReserve h z) where
-    asked-held : held s +ℤ held z ≡ s +ℤ pos (floor h)
-    asked-held = ap₂ _+ℤ_ (held-small s (omega (arith, reach .scale))) (held-natural z (floor h) (least .is) (omega (arith, least .small)))
+    asked-held : held s +ℤ held z ≡ s +ℤ pos (headroom h)
+    asked-held = ap₂ _+ℤ_ (held-small s (omega (arith, reach .scale))) (held-natural z (headroom h) (least .is) (omega (arith, least .small)))
 
-    asked-small : positive (s +ℤ pos (floor h)) + negative (s +ℤ pos (floor h)) ≤ 1000000
-    asked-small = omega (arith, sum-small s (pos (floor h)) 7200 60 (reach .scale) (omega (arith, least .small)))
+    asked-small : positive (s +ℤ pos (headroom h)) + negative (s +ℤ pos (headroom h)) ≤ 1000000
+    asked-small = omega (arith, sum-small s (pos (headroom h)) 7200 60 (reach .scale) (omega (arith, least .small)))
 
     pub asked-fits : SFits w32 (held s +ℤ held z)
-    asked-fits = rw asked-held (small-fits (s +ℤ pos (floor h)) asked-small)
+    asked-fits = rw asked-held (small-fits (s +ℤ pos (headroom h)) asked-small)
 
   module _ (f : ℤ) (is : f ≡ pos (h .factor)) where
     modulus-held : held f *ℤ held l ≡ pos (h .factor) *ℤ l
@@ -64,9 +64,9 @@ module _ (h : Header) (ranged : T (headerInRange h)) (s l : ℤ) (reach : InReac
     modulus-fits = rw modulus-held (small-fits (pos (h .factor) *ℤ l) modulus-small)
 
     pub modulus-test :
-        (z : ℤ) → LeastReserve h z → leZ (held (held s +ℤ held z)) (held (held f *ℤ held l)) ≡ leZ (s +ℤ pos (floor h)) (pos (h .factor) *ℤ l)
+        (z : ℤ) → LeastReserve h z → leZ (held (held s +ℤ held z)) (held (held f *ℤ held l)) ≡ leZ (s +ℤ pos (headroom h)) (pos (h .factor) *ℤ l)
     modulus-test z least =
-        ap₂ leZ (ap held (asked-held z least) ∙ held-small (s +ℤ pos (floor h)) (asked-small z least))
+        ap₂ leZ (ap held (asked-held z least) ∙ held-small (s +ℤ pos (headroom h)) (asked-small z least))
         (ap held modulus-held ∙ held-small (pos (h .factor) *ℤ l) modulus-small)
 
 -- ---- both bounds
@@ -86,8 +86,8 @@ module _ (h : Header) (s l : ℤ) (reach : InReach s l) (low : Bool) (tests-low 
   pub below-waterline : (of : Scaled) → low ≡ false → stops 10 ≡ bounded h (foundAs of) s l
   below-waterline of t = rw (← is-low, t)
 
-  module _ (reached : low ≡ true) (high : Bool) (tests-high : high ≡ leZ (held s +ℤ pos (floor h)) (pos (h .factor) *ℤ held l)) where
-    is-high : high ≡ leZ (s +ℤ pos (floor h)) (pos (h .factor) *ℤ l)
+  module _ (reached : low ≡ true) (high : Bool) (tests-high : high ≡ leZ (held s +ℤ pos (headroom h)) (pos (h .factor) *ℤ held l)) where
+    is-high : high ≡ leZ (s +ℤ pos (headroom h)) (pos (h .factor) *ℤ l)
     is-high = tests-high ∙ rw (held-small s (omega (arith, reach .scale)), held-small l (omega (arith, reach .level)))
 
     pub above-modulus : (of : Scaled) → high ≡ false → stops 9 ≡ bounded h (foundAs of) s l
@@ -130,4 +130,29 @@ module _ (y z : ℤ) (s l : ℕ) (e : y ≡ pos s) (f : z ≡ pos l) (a : s ≤ 
       stepOf r ≡ bounded h (foundAs of) (pos s) (pos l)
   natural-bounded h of r q = q ∙ ap₂ (bounded h (foundAs of)) (held-natural y s e a) (held-natural z l f (omega arith))
 
-pub ruleset bound-laws = (needs, not-true, not-false, signed-is, reserve-is, difference-fits, difference-is, waterline-small, factor-small, waterline-test, asked-fits, modulus-fits, modulus-test, found-by, reach-held, below-waterline, above-modulus, scale-not-below, scale-fits, level-not-below, level-fits, within-bounds, natural-reach, natural-bounded)
+pub ruleset bound-laws = (
+  needs,
+  not-true,
+  not-false,
+  signed-is,
+  reserve-is,
+  difference-fits,
+  difference-is,
+  waterline-small,
+  factor-small,
+  waterline-test,
+  asked-fits,
+  modulus-fits,
+  modulus-test,
+  found-by,
+  reach-held,
+  below-waterline,
+  above-modulus,
+  scale-not-below,
+  scale-fits,
+  level-not-below,
+  level-fits,
+  within-bounds,
+  natural-reach,
+  natural-bounded,
+)

@@ -17,7 +17,9 @@ use Rattle.model.specs.declared.Answer.the-variants.{Done, Refused}
 use Rattle.model.specs.declared.Found.{Found}
 use Rattle.model.specs.declared.Found.the-variants as Founds
 use Rattle.model.specs.Scales.{headerInRange}
-use Rattle.model.specs.Files.{placeOf, inRange, TableFormed}
+use Rattle.rows.specs.Rows.{placeOf}
+use Rattle.text.specs.Tables.{TableFormed}
+use Rattle.model.specs.Files.{inRange}
 use Rattle.model.specs.Machine.{Step, goes, stops, Run, finished, stopped, step, countIn, runFrom, run}
 use Rattle.model.specs.Refused.{checkMachine, rulesAnswer}
 use Rattle.model.proofs.Formed.{LineFacts, well-header, well-lines, formed-line}
@@ -122,8 +124,8 @@ module _ (h : Header) (records : List (List ℕ)) (count : ℕ) (numbers : List 
     rest-is = drop-cons lines i Free (omega (arith, lines-long)) ∙ ap (λ (x : Line). x ∷ drop (suc i) lines) line-is
 
     module _ (x : Line) (is : x ≡ line) where
-      pub line-ranged : T (inRange Schedule h x)
-      line-ranged = subst (λ (y : Line). T (inRange Schedule h y)) (sym is) (facts .range)
+      pub line-ranged : T (inRange h x)
+      line-ranged = subst (λ (y : Line). T (inRange h y)) (sym is) (facts .range)
 
       module _ (r : Ruled) (told : stepOf r ≡ ruledFrom h x numbers) where
         told-at : stepOf r ≡ ruledBy h x (getD found (firstOperand x) Founds.Bare) (getD found (secondOperand x) Founds.Bare)

@@ -15,12 +15,12 @@ use Rattle.model.specs.declared.Line.{Line}
 use Rattle.model.specs.declared.Line.the-variants.{Enc, Rs, Ms, Us}
 use Rattle.model.specs.declared.Found.{Found}
 use Rattle.model.specs.declared.Found.the-variants as Founds
-use Rattle.model.specs.Scales.{within, headerInRange}
-use Rattle.model.specs.Words.{levelsFrom, levelsTo}
+use Rattle.rows.specs.Fields.{within}
+use Rattle.model.specs.Scales.{headerInRange}
 use Rattle.model.specs.Files.{inRange}
 use Rattle.model.specs.Machine.{Step}
 use Rattle.model.specs.Refused.{bounded, onCiphertext}
-use Rattle.model.proofs.Tests.{and-first, and-second, within-facts, header-facts, level-most}
+use Rattle.model.proofs.Tests.{and-first, and-second, within-facts, header-facts}
 use Rattle.rules.specs.declared.bounds.Ruled.{Ruled}
 use Rattle.rules.specs.Ruled.{stepOf, moved, ruledBy, Small, SmallNumbers}
 use Rattle.rules.specs.Numbers.{foundAt, AllSmall, ruledFrom}
@@ -32,19 +32,18 @@ module _ (h : Header) (ranged : T (headerInRange h)) where
   pub top-small : h .top ≤ 60
   top-small = header-facts h ranged .top .most
 
-  module _ (x : Line) (fields : T (inRange Schedule h x)) (a : ℕ) where
-    named-range : (y : Line) → x ≡ y → T (inRange Schedule h y)
-    named-range y e = subst (λ (z : Line). T (inRange Schedule h z)) e fields
+  module _ (x : Line) (fields : T (inRange h x)) (a : ℕ) where
+    named-range : (y : Line) → x ≡ y → T (inRange h y)
+    named-range y e = subst (λ (z : Line). T (inRange h z)) e fields
 
     pub encoded-small : (s l : ℕ) → x ≡ Enc a s l → SmallNumbers s l
     encoded-small s l e =
         let f = named-range (Enc a s l) e in
-        let low = levelsFrom Schedule in
-        let high = levelsTo Schedule h in
-        let level = within-facts low high l (and-second (within 1 3600 s) (within low high l) f) in
+        let high = h .top in
+        let level = within-facts 1 high l (and-second (within 1 3600 s) (within 1 high l) f) in
         record {
-          scale = within-facts 1 3600 s (and-first (within 1 3600 s) (within low high l) f) .most;
-          level = omega (arith, top-small, level-most Schedule h, level .most);
+          scale = within-facts 1 3600 s (and-first (within 1 3600 s) (within 1 high l) f) .most;
+          level = omega (arith, top-small, level .most);
         }
 
     module _ (count : ℕ) where
@@ -110,4 +109,21 @@ module _ (h : Header) (x : Found) (r : Ruled) where
   pub upscaled-is : (b : ℕ) → stepOf r ≡ moved h b 0 0 x → stepOf r ≡ onCiphertext (λ s l. bounded h Founds.Ciphertext (pos (s + b)) (pos l)) x
   upscaled-is b q = rewritten (λ s. pos (s + b) -ℤ pos 0) (λ s. pos (s + b)) (λ l. pos l -ℤ pos 0) pos (λ s. minus-zero (s + b)) minus-zero q
 
-pub ruleset line-laws = (needs, waterline-small, top-small, encoded-small, rescaled-small, rescaled-fits, modswitched-small, upscaled-small, held-small, by-none, by-one, by-both, unchanged-is, rescaled-is, modswitched-is, upscaled-is)
+pub ruleset line-laws = (
+  needs,
+  waterline-small,
+  top-small,
+  encoded-small,
+  rescaled-small,
+  rescaled-fits,
+  modswitched-small,
+  upscaled-small,
+  held-small,
+  by-none,
+  by-one,
+  by-both,
+  unchanged-is,
+  rescaled-is,
+  modswitched-is,
+  upscaled-is,
+)

@@ -13,7 +13,7 @@ use Rattle.model.specs.declared.Line.the-variants.{In, Const, Neg, Rot, Add, Mu
 use Rattle.model.specs.declared.Found.{Found}
 use Rattle.model.specs.declared.Found.the-variants as Founds
 use Rattle.model.specs.Files.{operands, kindAt, isUsable, everyUsable}
-use Rattle.model.specs.Machine.{Step, andThen, orAbsent, operand, step}
+use Rattle.model.specs.Machine.{Step, andThen, orAbsent, heldBy, step}
 use Rattle.model.specs.Refused.{checkMachine}
 use Rattle.model.proofs.Lists.{found-at}
 use Rattle.model.proofs.Tests.{and-first, and-second}
@@ -31,17 +31,17 @@ module _ (h : Header) (before : List Line) (found : List Found) (ins i : ℕ) (l
       let below = usable-below before a u in
       found-at (take i found) a Founds.Bare (omega (arith, length-take-le i found within)) ∙ ap some (getD-take i found a Founds.Bare (omega arith))
 
-  -- with the first operand, and with the one after it
+  -- with the first heldBy, and with the one after it
   first-held : (a : ℕ) (names : List ℕ) → T (everyUsable before (a ∷ names)) → (f : Found → Step Found ℕ)
-      → andThen (operand (checkMachine h) (take i found) a) f ≡ f (at a)
+      → andThen (heldBy (checkMachine h) (take i found) a) f ≡ f (at a)
   first-held a names u f =
       ap (λ (o : Option Found). andThen (orAbsent (checkMachine h .absent) o) f)
       (present a (and-first (isUsable (kindAt before a)) (everyUsable before names) u))
 
   both-held : (a b : ℕ) → T (everyUsable before (a ∷ b ∷ [])) → (f : Found → Found → Step Found ℕ)
-      → andThen (operand (checkMachine h) (take i found) a) (λ x. andThen (operand (checkMachine h) (take i found) b) (f x)) ≡ f (at a) (at b)
+      → andThen (heldBy (checkMachine h) (take i found) a) (λ x. andThen (heldBy (checkMachine h) (take i found) b) (f x)) ≡ f (at a) (at b)
   both-held a b u f =
-      first-held a (b ∷ []) u (λ x. andThen (operand (checkMachine h) (take i found) b) (f x))
+      first-held a (b ∷ []) u (λ x. andThen (heldBy (checkMachine h) (take i found) b) (f x))
       ∙ first-held b [] (and-second (isUsable (kindAt before a)) (everyUsable before (b ∷ [])) u) (f (at a))
 
   pub step-is :

@@ -56,7 +56,7 @@ module _ (h : Header) (ranged : T (headerInRange h)) where
     two : (w : Found) (f : ℕ → ℕ → ℕ → ℕ → Step Found ℕ) → ((s l s′ l′ : ℕ) → l ≤ 60 → SmallOutcome (f s l s′ l′)) → SmallOutcome (onPair f v w)
     two w f k = on-pair AnyReason Small f v w (λ t. tt) (k (scaleOf v) (levelOf v) (scaleOf w) (levelOf w) (level-of v p))
 
-    small-outcome : (w : Found) (x : Line) → T (inRange Schedule h x) → SmallOutcome (ruledBy h x v w)
+    small-outcome : (w : Found) (x : Line) → T (inRange h x) → SmallOutcome (ruledBy h x v w)
     unfolding ruledBy
     small-outcome w In r = ciphertext (pos (h .waterline)) (pos (h .top)) (top-small h ranged)
     small-outcome w (Const k) r = tt
@@ -73,7 +73,7 @@ module _ (h : Header) (ranged : T (headerInRange h)) where
     small-outcome w (Us a b) r = one (λ s. pos (s + b)) pos (λ n q. q)
     small-outcome w Free r = tt
 
-  pub found-small : (x : Line) → T (inRange Schedule h x) → (found : List (List ℕ)) (u : Found) → AllSmall found → ruledFrom h x found ≡ goes u → Small u
+  pub found-small : (x : Line) → T (inRange h x) → (found : List (List ℕ)) (u : Found) → AllSmall found → ruledFrom h x found ≡ goes u → Small u
   unfolding ruledFrom
   found-small x r found u all e =
       subst SmallOutcome e (small-outcome (foundAt found (firstOperand x)) (all (firstOperand x)) (foundAt found (secondOperand x)) x r)

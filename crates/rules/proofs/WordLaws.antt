@@ -14,9 +14,9 @@ use Rattle.model.specs.declared.Found.the-variants as Founds
 use Rattle.model.specs.Machine.{Step, stops}
 use Rattle.model.specs.Refused.{bounded, onBare, onPair, sum, product}
 use Rattle.rules.specs.declared.bounds.Ruled.{Ruled}
-use Rattle.rules.specs.declared.words.Numbers.{Numbers}
-use Rattle.rules.specs.declared.words.Pair.{Pair}
-use Rattle.rules.specs.declared.words.Pair.the-variants.{Both, NoPair}
+use Rattle.rules.specs.declared.rule_steps.Numbers.{Numbers}
+use Rattle.rules.specs.declared.rule_steps.Pair.{Pair}
+use Rattle.rules.specs.declared.rule_steps.Pair.the-variants.{Both, NoPair}
 use Rattle.rules.specs.Ruled.{stepOf, moved, pairOf, InReach, Small, SmallNumbers}
 use Rattle.rules.proofs.SignedNumbers.{held, held-small, difference-small}
 
@@ -149,4 +149,25 @@ module _ (h : Header) (s l s′ l′ : ℕ) where
     pub product-is : (r : Ruled) → stepOf r ≡ bounded h Founds.Ciphertext (pos (s + s′)) (pos l) → stepOf r ≡ product h s l s′ l′
     product-is r q = rw (eq-eqb l l′ level) q
 
-pub ruleset word-laws = (needs, encoded-is, raised-fits, raised-small, level-small, moved-reach, moved-is, lowered-small, levels-small, pair-by, first-small, second-small, added-is, multiplied-is, wrong-pair, sum-levels, product-levels, sum-scales, sum-is, product-is)
+pub ruleset word-laws = (
+  needs,
+  encoded-is,
+  raised-fits,
+  raised-small,
+  level-small,
+  moved-reach,
+  moved-is,
+  lowered-small,
+  levels-small,
+  pair-by,
+  first-small,
+  second-small,
+  added-is,
+  multiplied-is,
+  wrong-pair,
+  sum-levels,
+  product-levels,
+  sum-scales,
+  sum-is,
+  product-is,
+)

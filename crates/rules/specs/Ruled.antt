@@ -8,16 +8,16 @@ use Rattle.model.specs.declared.Found.{Found}
 use Rattle.model.specs.declared.Found.the-variants as Founds
 use Rattle.model.specs.declared.Line.{Line}
 use Rattle.model.specs.declared.Line.the-variants.{In, Const, Neg, Rot, Add, Mul, Out, Enc, Rs, Ms, Us, Free}
-use Rattle.model.specs.Scales.{floor}
+use Rattle.model.specs.Scales.{headroom}
 use Rattle.model.specs.Machine.{Step, goes, stops}
 use Rattle.model.specs.Refused.{bounded, onCiphertext, checkMachine}
 use Rattle.rules.specs.declared.bounds.Ruled.{Ruled}
 use Rattle.rules.specs.declared.bounds.Ruled.the-variants.{Goes, Stops}
 use Rattle.rules.specs.declared.bounds.Scaled.{Scaled}
 use Rattle.rules.specs.declared.bounds.Scaled.the-variants.{Encoded, Ciphertext}
-use Rattle.rules.specs.declared.words.Numbers.{Numbers}
-use Rattle.rules.specs.declared.words.Pair.{Pair}
-use Rattle.rules.specs.declared.words.Pair.the-variants.{Both, NoPair}
+use Rattle.rules.specs.declared.rule_steps.Numbers.{Numbers}
+use Rattle.rules.specs.declared.rule_steps.Pair.{Pair}
+use Rattle.rules.specs.declared.rule_steps.Pair.the-variants.{Both, NoPair}
 
 -- what the code answers, as a step
 abbrev pub stepOf : Ruled → Step Found ℕ
@@ -32,8 +32,8 @@ foundAs Ciphertext s l = Founds.Ciphertext s l
 -- ---- ranges
 -- the least reserve as a signed number; it is small
 pub record LeastReserve (h : Header) (r : ℤ) : Type 0 where
-  pub is : r ≡ pos (floor h)
-  pub small : floor h ≤ 60
+  pub is : r ≡ pos (headroom h)
+  pub small : headroom h ≤ 60
 
 -- a scale and a level that a line can come to before its bounds are asked, perhaps below zero
 pub record InReach (s l : ℤ) : Type 0 where

@@ -6,7 +6,7 @@ ghost use Prim.Native.Nat.{_≤_};
 ghost use lib.Dec.{T};
 ghost use lib.IntN.{pos, _+ℤ_, _-ℤ_, _*ℤ_};
 ghost use lib.Signed.{leZ};
-ghost use Rattle.model.specs.Scales.{headerInRange, floor};
+ghost use Rattle.model.specs.Scales.{headerInRange, headroom};
 ghost use Rattle.model.specs.Refused.{bounded};
 ghost use Rattle.rules.specs.Ruled.{stepOf, foundAs, LeastReserve, InReach};
 
@@ -56,7 +56,7 @@ fn reaches_waterline(header: Header, scale: i32) -> bool
 fn fits_modulus(header: Header, scale: i32, level: i32) -> bool
     requires { ⌜ T (headerInRange header) ⌝ }
     requires { ⌜ InReach scale level ⌝ }
-    ensures { λ r. ⌜ r ≡ leZ (scale +ℤ pos (floor header)) (pos (header .factor) *ℤ level) ⌝ }
+    ensures { λ r. ⌜ r ≡ leZ (scale +ℤ pos (headroom header)) (pos (header .factor) *ℤ level) ⌝ }
 {
     scale + least_reserve(header) <= signed(header.factor) * level
 }

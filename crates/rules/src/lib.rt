@@ -1,6 +1,6 @@
 // The rules of a schedule's lines: the first line that breaks one, and which.
 pub mod bounds;
-pub mod words;
+pub mod rule_steps;
 
 use crate::bounds::Ruled;
 use crate::bounds::Scaled;
@@ -12,7 +12,8 @@ ghost use mathlib.Core.Path.{_≡_};
 ghost use lib.Dec.{T};
 ghost use Rattle.model.specs.declared.Grammar.the-variants.{Schedule};
 ghost use Rattle.model.specs.Scales.{headerInRange};
-ghost use Rattle.model.specs.Files.{inRange, TableFormed};
+ghost use Rattle.text.specs.Tables.{TableFormed};
+ghost use Rattle.model.specs.Files.{inRange};
 ghost use Rattle.model.specs.Refused.{rulesAnswer};
 ghost use Rattle.tables.specs.Records.{linesHeld, held};
 ghost use Rattle.rules.specs.Ruled.{stepOf, Small};
@@ -59,7 +60,7 @@ fn found_at(found: &[[u16; 3]], of: u16) -> Found
 // A line, from what was found of the lines before it.
 fn ruled(header: Header, line: Line, found: &[[u16; 3]]) -> Ruled
     requires { ⌜ T (headerInRange header) ⌝ }
-    requires { ⌜ T (inRange Schedule header line) ⌝ }
+    requires { ⌜ T (inRange header line) ⌝ }
     requires { ⌜ AllSmall (now found) ⌝ }
     ensures { λ r. ⌜ stepOf r ≡ ruledFrom header line (now (found .entry)) ⌝ }
 {
@@ -68,20 +69,20 @@ fn ruled(header: Header, line: Line, found: &[[u16; 3]]) -> Ruled
             bounds::bounded_natural(header, Scaled::Ciphertext, header.waterline, header.top)
         }
         Line::Const(_) => Ruled::Goes(Found::Bare),
-        Line::Neg(a) => words::moved(header, found_at(found, a), 0, 0, 0),
-        Line::Rot(a, _) => words::moved(header, found_at(found, a), 0, 0, 0),
-        Line::Add(a, b) => words::added(header, found_at(found, a), found_at(found, b)),
-        Line::Mul(a, b) => words::multiplied(header, found_at(found, a), found_at(found, b)),
-        Line::Out(a) => words::moved(header, found_at(found, a), 0, 0, 0),
+        Line::Neg(a) => rule_steps::moved(header, found_at(found, a), 0, 0, 0),
+        Line::Rot(a, _) => rule_steps::moved(header, found_at(found, a), 0, 0, 0),
+        Line::Add(a, b) => rule_steps::added(header, found_at(found, a), found_at(found, b)),
+        Line::Mul(a, b) => rule_steps::multiplied(header, found_at(found, a), found_at(found, b)),
+        Line::Out(a) => rule_steps::moved(header, found_at(found, a), 0, 0, 0),
         Line::Enc { of, scale, level } => {
-            words::encoded(header, found_at(found, of), scale as u32, level)
+            rule_steps::encoded(header, found_at(found, of), scale as u32, level)
         }
         Line::Rs(a, count) => {
             let lowered = header.factor * (count as u32);
-            words::moved(header, found_at(found, a), 0, lowered, count as u32)
+            rule_steps::moved(header, found_at(found, a), 0, lowered, count as u32)
         }
-        Line::Ms(a, count) => words::moved(header, found_at(found, a), 0, 0, count as u32),
-        Line::Us(a, bits) => words::moved(header, found_at(found, a), bits as u32, 0, 0),
+        Line::Ms(a, count) => rule_steps::moved(header, found_at(found, a), 0, 0, count as u32),
+        Line::Us(a, bits) => rule_steps::moved(header, found_at(found, a), bits as u32, 0, 0),
         Line::Free => Ruled::Stops(4),
     }
 }

@@ -1,23 +1,39 @@
--- What the check replies is what is promised: success exactly where the schedule passes. Assumes nothing.
-use Prim.Native.Nat.{ℕ}
+-- What the check replies is what is promised: success exactly where the schedule passes, and what each refusal means. Assumes nothing.
+use Prim.Native.Nat.{ℕ, _≤_}
 use native.Mathlib.Omega.{arith}
-use mathlib.Core.Path.{_≡_, refl, sym, ap, _∙_}
+use mathlib.Core.Path.{_≡_, refl, sym, ap, _∙_, subst, subst₂}
 use mathlib.Core.Logic.{_⊎_, inl, inr}
-use Rattle.fields.specs.Pieces.{Bytes}
+use mathlib.Core.Bool.{Bool, cond}
+use borrow.Author.Tests.{eq-eqb, ne-eqb}
+use lib.Dec.{T, eqb}
+use Rattle.fields.specs.Pieces.{Bytes, lineFeed, split}
 use Rattle.model.specs.declared.Answer.{Answer}
 use Rattle.model.specs.declared.Answer.the-variants.{Done, Level, Refused}
-use Rattle.model.specs.Files.{File}
-use Rattle.model.specs.Refused.{check}
+use Rattle.model.specs.declared.Grammar.the-variants.{Circuit, Schedule}
+use Rattle.model.specs.Files.{File, wellFormed}
+use Rattle.model.specs.Services.{eraseFile}
+use Rattle.model.specs.Refused.{answerFile, check}
 use Rattle.model.proofs.Theorems as Model
 use Rattle.model.proofs.Statements.Check as Check
-use Rattle.text.specs.Files.{Reading, read, refused, readText, circuitContext, scheduleContext}
+use Rattle.model.proofs.Statements.FirstBroken.{IsFirstBroken}
+use Rattle.rows.specs.Rows.{Reading, read, refused}
+use Rattle.text.specs.Files.{readText, circuitContext, scheduleContext, fileText}
 use Rattle.text.proofs.Refusals.{not-zero}
-use Rattle.text.proofs.FileLaws.{file-read-written}
+use Rattle.text.proofs.FileLaws.{FileBack, file-read-written}
 use Rattle.services.specs.declared.Reply.{Reply}
-use Rattle.services.specs.Outcomes.{answered, onceRead, checkOutcome, replyOf}
-use Rattle.services.specs.Promises.{Passed, CheckPromise}
-use Rattle.services.proofs.Texts.{number-told, text-inverse, passed-files, passed-texts, passed-exact}
+use Rattle.services.specs.Outcomes.{Outcome, refuses, answered, onceRead, checkOutcome, replyOf}
+use Rattle.services.specs.Promises.{Passed, TextsDifferAt, Verdict, keeps-rules, other-circuit, breaks-rule, BothRead, CheckPromise}
+use Rattle.services.proofs.Texts.{number-told, eleven, few-lines, text-inverse, passed-files, passed-texts, passed-exact}
+use Rattle.services.proofs.Differences.{differ-texts}
 
+-- the file that is named: at a line, the circuit with 12 and the schedule with another number
+circuit-named : (n p : ℕ) → (p ≡ 0 → ⊥) → n ≡ 12 → answerFile 2 (Refused n p) ≡ 1
+circuit-named n p f e = ap (λ (b : Bool). cond b 0 (cond (eqb n 12) 1 2)) (ne-eqb p 0 f) ∙ ap (λ (b : Bool). cond b 1 2) (eq-eqb n 12 e)
+
+schedule-named : (n p : ℕ) → (p ≡ 0 → ⊥) → (n ≡ 12 → ⊥) → answerFile 2 (Refused n p) ≡ 2
+schedule-named n p f e = ap (λ (b : Bool). cond b 0 (cond (eqb n 12) 1 2)) (ne-eqb p 0 f) ∙ ap (λ (b : Bool). cond b 1 2) (ne-eqb n 12 e)
+
+-- ---- what the check comes to
 module _ (circuit schedule : Bytes) where
   abbrev Circuits : File → Type 0
   Circuits c = readText circuitContext circuit ≡ read c
@@ -25,47 +41,108 @@ module _ (circuit schedule : Bytes) where
   abbrev Schedules : File → Type 0
   Schedules s = readText scheduleContext schedule ≡ read s
 
-  judges : {c s : File} → Circuits c → Schedules s → Check.Judges c s
-  judges {c} {s} e q = Model.checks c s (file-read-written circuitContext circuit e .formed) (file-read-written scheduleContext schedule q .formed)
+  data CheckCase : Outcome → Type 0 where
+    circuit-unread : (n p : ℕ) → readText circuitContext circuit ≡ refused n p → CheckCase (refuses n 1 p)
+    schedule-unread : (n p : ℕ) → readText scheduleContext schedule ≡ refused n p → CheckCase (refuses n 2 p)
+    both-read : (c s : File) → Circuits c → Schedules s → CheckCase (answered 2 (check c s))
 
-  -- a refusal of the check has a number
-  refusal-number : {c s : File} → Circuits c → Schedules s → (n p : ℕ) → check c s ≡ Refused n p → n ≡ 0 → ⊥
-  refusal-number {c} {s} e q n p a z = go (judges e q .refuses n p a)
+  check-case : CheckCase (checkOutcome circuit schedule)
+  check-case = go (readText circuitContext circuit) refl
     where
-      go : ((n ≡ 12) × Check.OtherCircuit c s p) ⊎ Check.ByRules c s n p → ⊥
-      go (inl o) = let twelve = o .0 in omega arith
-      go (inr o) = let b = Model.first-broken (s .header) (s .lines) (file-read-written scheduleContext schedule q .formed) n p (o .by-rules) in omega (arith, b .least)
+      on-circuit : (c : File) → Circuits c → (y : Reading File) → readText scheduleContext schedule ≡ y → CheckCase (onceRead 2 y (λ s. answered 2 (check c s)))
+      on-circuit c e (read s) q = both-read c s e q
+      on-circuit c e (refused n p) q = schedule-unread n p q
 
-  success : {c s : File} → Circuits c → Schedules s → (a : Answer) → check c s ≡ a → replyOf (answered 2 a) .number ≡ 0 → Passed circuit schedule
-  success e q Done a z = passed-texts circuit schedule e q (judges e q .passes .0 a)
-  success e q (Level l) a z = absurd (judges e q .no-level l a)
-  success e q (Refused n p) a z = absurd (refusal-number e q n p a z)
+      go : (x : Reading File) → readText circuitContext circuit ≡ x → CheckCase (onceRead 1 x (λ c. onceRead 2 (readText scheduleContext schedule) (λ s. answered 2 (check c s))))
+      go (read c) e = on-circuit c e (readText scheduleContext schedule) refl
+      go (refused n p) e = circuit-unread n p e
 
-  zero-passed : replyOf (checkOutcome circuit schedule) .number ≡ 0 → Passed circuit schedule
-  zero-passed = go (readText circuitContext circuit) refl
-    where
-      on-circuit : (c : File) → Circuits c → (y : Reading) → readText scheduleContext schedule ≡ y → replyOf (onceRead 2 y (λ s. answered 2 (check c s))) .number ≡ 0 → Passed circuit schedule
-      on-circuit c e (read s) q z = success e q (check c s) refl z
-      on-circuit c e (refused n p) q z = absurd (not-zero (number-told scheduleContext schedule n p q) z)
+  -- the reply once both are read
+  reply-read : {c s : File} → Circuits c → Schedules s → replyOf (checkOutcome circuit schedule) ≡ replyOf (answered 2 (check c s))
+  reply-read {c} e q =
+      ap (λ (x : Reading File). replyOf (onceRead 1 x (λ c. onceRead 2 (readText scheduleContext schedule) (λ s. answered 2 (check c s))))) e
+      ∙ ap (λ (y : Reading File). replyOf (onceRead 2 y (λ s. answered 2 (check c s)))) q
 
-      go : (x : Reading) → readText circuitContext circuit ≡ x
-          → replyOf (onceRead 1 x (λ c. onceRead 2 (readText scheduleContext schedule) (λ s. answered 2 (check c s)))) .number ≡ 0 → Passed circuit schedule
-      go (read c) e z = on-circuit c e (readText scheduleContext schedule) refl z
-      go (refused n p) e z = absurd (not-zero (number-told circuitContext circuit n p e) z)
+  module _ {c s : File} (e : Circuits c) (q : Schedules s) where
+    back : FileBack circuitContext circuit c
+    back = file-read-written circuitContext circuit e
+
+    formed : T (wellFormed Schedule (s .header) (s .lines))
+    formed = file-read-written scheduleContext schedule q .formed
+
+    judges : Check.Judges c s
+    judges = Model.checks c s (back .formed) formed
+
+    first-broken : {n p : ℕ} → Check.ByRules c s n p → IsFirstBroken (s .header) (s .lines) n p
+    first-broken {n} {p} r = Model.first-broken (s .header) (s .lines) formed n p (r .by-rules)
+
+    -- a refusal of the check has a number
+    refusal-number : (n p : ℕ) → check c s ≡ Refused n p → n ≡ 0 → ⊥
+    refusal-number n p a z = go (judges .refuses n p a)
+      where
+        go : ((n ≡ 12) × Check.OtherCircuit c s p) ⊎ Check.ByRules c s n p → ⊥
+        go (inl o) = let twelve = o .0 in omega arith
+        go (inr r) = omega (arith, first-broken r .least)
+
+    success : (a : Answer) → check c s ≡ a → replyOf (answered 2 a) .number ≡ 0 → Passed circuit schedule
+    success Done a z = passed-texts circuit schedule e q (judges .passes .0 a)
+    success (Level l) a z = absurd (judges .no-level l a)
+    success (Refused n p) a z = absurd (refusal-number n p a z)
+
+    -- what each answer says
+    abbrev Judged : Reply → Type 0
+    Judged r = Verdict circuit s (r .number) (r .file) (r .place)
+
+    other : (n p : ℕ) → n ≡ 12 → Check.OtherCircuit c s p → Judged (replyOf (answered 2 (Refused n p)))
+    other n p m o =
+        let d = subst (λ (text : Bytes). TextsDifferAt (split lineFeed text) (split lineFeed (fileText Circuit (eraseFile s))) p) (back .written)
+        (differ-texts c s (back .formed) formed (few-lines circuitContext back) o) in
+        subst₂ (λ (k f : ℕ). Verdict circuit s k f p) (sym m) (sym (circuit-named n p (λ z. omega (arith, d .place-is)) m)) (other-circuit p d)
+
+    broken : (n p : ℕ) → Check.ByRules c s n p → Judged (replyOf (answered 2 (Refused n p)))
+    broken n p r =
+        let b = first-broken r in
+        let same : eraseFile s ≡ c = λ i. record { header = sym (r .same-header) i; lines = sym (r .same-lines) i } in
+        subst (λ (f : ℕ). Verdict circuit s n f p) (sym (schedule-named n p (λ z. omega (arith, b .broken .place-is)) (λ z. omega (arith, b .most))))
+        (breaks-rule n p (ap (fileText Circuit) same ∙ back .written) (b .broken))
+
+    judged : (a : Answer) → check c s ≡ a → Judged (replyOf (answered 2 a))
+    judged Done a = let p = judges .passes .0 a in keeps-rules (ap (fileText Circuit) (p .erases) ∙ back .written) (p .keeps)
+    judged (Level l) a = absurd (judges .no-level l a)
+    judged (Refused n p) a = go (judges .refuses n p a)
+      where
+        go : ((n ≡ 12) × Check.OtherCircuit c s p) ⊎ Check.ByRules c s n p → Judged (replyOf (answered 2 (Refused n p)))
+        go (inl (m, o)) = other n p m o
+        go (inr r) = broken n p r
+
+  zero-passed : {o : Outcome} → CheckCase o → replyOf o .number ≡ 0 → Passed circuit schedule
+  zero-passed (circuit-unread n p e) z = absurd (not-zero (number-told circuitContext circuit n p e) z)
+  zero-passed (schedule-unread n p q) z = absurd (not-zero (number-told scheduleContext schedule n p q) z)
+  zero-passed (both-read c s e q) z = success e q (check c s) refl z
+
+  files-read : {o : Outcome} → CheckCase o → 7 ≤ replyOf o .number → (replyOf o .number ≡ 11 → ⊥) → BothRead circuit schedule
+  files-read (circuit-unread n p e) u f = absurd (f (eleven (number-told circuitContext circuit n p e) u))
+  files-read (schedule-unread n p q) u f = absurd (f (eleven (number-told scheduleContext schedule n p q) u))
+  files-read (both-read c s e q) u f = record { circuit-file = c; schedule-file = s; circuit-reads = e; schedule-reads = q }
 
   passed-zero : Passed circuit schedule → replyOf (checkOutcome circuit schedule) .number ≡ 0
   passed-zero p =
-      let done = judges (p .circuit-reads) (p .schedule-reads) .passes .1 (passed-files circuit schedule p) in
-      ap (λ (x : Reading). replyOf (onceRead 1 x (λ c. onceRead 2 (readText scheduleContext schedule) (λ s. answered 2 (check c s)))) .number) (p .circuit-reads)
-      ∙ ap (λ (y : Reading). replyOf (onceRead 2 y (λ s. answered 2 (check (p .circuit-file) s))) .number) (p .schedule-reads)
-      ∙ ap (λ (a : Answer). replyOf (answered 2 a) .number) done
+      ap (λ (r : Reply). r .number) (reply-read (p .files .circuit-reads) (p .files .schedule-reads))
+      ∙ ap (λ (a : Answer). replyOf (answered 2 a) .number) (judges (p .files .circuit-reads) (p .files .schedule-reads) .passes .1 (passed-files circuit schedule p))
 
-pub check-promise : (circuit schedule : Bytes) (r : Reply) → r ≡ replyOf (checkOutcome circuit schedule) → CheckPromise circuit schedule r
-check-promise circuit schedule r e =
-    record {
-      inverse-circuit = text-inverse circuitContext (omega arith) circuit;
-      inverse-schedule = text-inverse scheduleContext (omega arith) schedule;
-      reply = e;
-      passes = (λ z. zero-passed circuit schedule (sym (ap (λ (q : Reply). q .number) e) ∙ z), λ p. ap (λ (q : Reply). q .number) e ∙ passed-zero circuit schedule p);
-      exact = passed-exact circuit schedule;
-    }
+  module _ (r : Reply) (a : r ≡ replyOf (checkOutcome circuit schedule)) where
+    number : r .number ≡ replyOf (checkOutcome circuit schedule) .number
+    number = ap (λ (q : Reply). q .number) a
+
+    pub check-promise : CheckPromise circuit schedule r
+    check-promise =
+        record {
+          inverse-circuit = text-inverse circuitContext (omega arith) circuit;
+          inverse-schedule = text-inverse scheduleContext (omega arith) schedule;
+          reply = a;
+          passes = (λ z. zero-passed check-case (sym number ∙ z), λ p. number ∙ passed-zero p);
+          exact = passed-exact circuit schedule;
+          verdict = λ b. subst (Judged (b .circuit-reads) (b .schedule-reads)) (sym (a ∙ reply-read (b .circuit-reads) (b .schedule-reads)))
+              (judged (b .circuit-reads) (b .schedule-reads) (check (b .circuit-file) (b .schedule-file)) refl);
+          both-read = λ u f. files-read check-case (subst (λ (n : ℕ). 7 ≤ n) number u) (λ z. f (number ∙ z));
+        }

@@ -16,24 +16,24 @@ use Rattle.model.specs.Services.{fateOf, eraseFrom, erase, eraseFile}
 use Rattle.model.proofs.Tests.{and-first, and-second}
 use Rattle.model.proofs.Formed.{line-facts, well-lines}
 use Rattle.model.proofs.Theorems as Model
-use Rattle.text.specs.Files.{Reading, read, refused, keptCount, readText, eraseContext}
-use Rattle.text.specs.Write.{fileText}
+use Rattle.rows.specs.Rows.{Reading, read, refused}
+use Rattle.text.specs.Files.{keptCount, readText, eraseContext, fileText}
 use Rattle.text.proofs.Refusals.{not-zero}
 use Rattle.text.proofs.FileLaws.{file-read-written}
 use Rattle.services.specs.declared.Reply.{Reply}
 use Rattle.services.specs.Outcomes.{Outcome, writes, refuses, onceRead, eraseOutcome, Replied}
-use Rattle.services.specs.Promises.{Fitting, Erases, ErasePromise}
+use Rattle.services.specs.Promises.{Fitting, ReadAs, Erases, ErasePromise}
 use Rattle.services.proofs.Lending.{Writing, text, refusal, lent-replies, fitting, written-text}
 use Rattle.services.proofs.Texts.{not-both, one-file, number-told, text-inverse, circuit-back}
 
 -- ---- an erasure has no more lines than are kept
-erase-kept : (xs : List Line) (origins : List ℕ) (count : ℕ) → keptCount (eraseFrom (λ i x. fateOf x) origins count xs) ≤ keptCount xs
+erase-kept : (xs : List Line) (origins : List ℕ) (count : ℕ) → keptCount (eraseFrom origins count xs) ≤ keptCount xs
 erase-kept [] origins count = omega arith
 erase-kept (x ∷ xs) origins count = by-word x (erase-kept xs (origins ++ (count ∷ [])) (suc count)) (λ a. erase-kept xs (origins ++ (getD origins a count ∷ [])) count)
   where
-    by-word : (x : Line) → keptCount (eraseFrom (λ i x. fateOf x) (origins ++ (count ∷ [])) (suc count) xs) ≤ keptCount xs
-        → ((a : ℕ) → keptCount (eraseFrom (λ i x. fateOf x) (origins ++ (getD origins a count ∷ [])) count xs) ≤ keptCount xs)
-        → keptCount (eraseFrom (λ i x. fateOf x) origins count (x ∷ xs)) ≤ keptCount (x ∷ xs)
+    by-word : (x : Line) → keptCount (eraseFrom (origins ++ (count ∷ [])) (suc count) xs) ≤ keptCount xs
+        → ((a : ℕ) → keptCount (eraseFrom (origins ++ (getD origins a count ∷ [])) count xs) ≤ keptCount xs)
+        → keptCount (eraseFrom origins count (x ∷ xs)) ≤ keptCount (x ∷ xs)
     by-word In k s = omega arith
     by-word (Const c) k s = omega arith
     by-word (Neg a) k s = omega arith
@@ -71,25 +71,28 @@ module _ (schedule : Bytes) where
   erase-case : EraseCase schedule (eraseOutcome schedule)
   erase-case = go (readText eraseContext schedule) refl
     where
-      go : (x : Reading) → readText eraseContext schedule ≡ x → EraseCase schedule (onceRead 1 x (λ f. writes (fileText Circuit (eraseFile f))))
+      go : (x : Reading File) → readText eraseContext schedule ≡ x → EraseCase schedule (onceRead 1 x (λ f. writes (fileText Circuit (eraseFile f))))
       go (refused n p) e = unread n p e
       go (read f) e = erased f e
 
-  erases-text : {f : File} → readText eraseContext schedule ≡ read f → Erases schedule (fileText Circuit (eraseFile f))
+  erases-text : {f : File} → readText eraseContext schedule ≡ read f → ReadAs eraseContext schedule (Erases (fileText Circuit (eraseFile f)))
   erases-text {f} e =
       let b = file-read-written eraseContext schedule e in
       let formed = Model.erasing (f .header) (f .lines) (b .formed) .formed in
       let kept = leb→le (keptCount (f .lines)) 256 (and-second (leb (length (f .lines)) 1792) (leb (keptCount (f .lines)) 256) (b .few)) in
       let all = all-kept (f .header) [] (erase (f .lines)) (well-lines Circuit (f .header) (erase (f .lines)) formed) in
       let most = erase-kept (f .lines) [] 0 in
-      record { file = f; reads = e; text-is = refl; circuit-reads = circuit-back (eraseFile f) formed (omega arith) }
+      record { file = f; reads = e; is = record { text-is = refl; circuit-reads = circuit-back (eraseFile f) formed (omega arith) } }
 
   module _ (out : Bytes) (r : Reply) (after : Bytes) where
-    erases : {o : Outcome} → EraseCase schedule o → Replied o out r after → r .number ≡ 0 → Erases schedule (take (r .length) after)
+    erases : {o : Outcome} → EraseCase schedule o → Replied o out r after → r .number ≡ 0 → ReadAs eraseContext schedule (Erases (take (r .length) after))
     erases (unread n p e) a z = absurd (not-zero (number-told eraseContext schedule n p e) (sym (ap (λ (q : Reply). q .number) (a .reply)) ∙ z))
-    erases (erased f e) a z = subst (Erases schedule) (sym (written-text out r after (fileText Circuit (eraseFile f)) (a .reply) (a .bytes) z)) (erases-text e)
+    erases (erased f e) a z =
+        subst (λ (text : Bytes). ReadAs eraseContext schedule (Erases text)) (sym (written-text out r after (fileText Circuit (eraseFile f)) (a .reply) (a .bytes) z))
+        (erases-text e)
 
-    otherwise : {o : Outcome} → EraseCase schedule o → Replied o out r after → (f : File) → readText eraseContext schedule ≡ read f → Fitting (length (fileText Circuit (eraseFile f))) (length out) (r .number)
+    otherwise : {o : Outcome} → EraseCase schedule o → Replied o out r after → (f : File) → readText eraseContext schedule ≡ read f
+        → Fitting (length (fileText Circuit (eraseFile f))) (length out) (r .number)
     otherwise (unread n p e) a f i = not-both i e
     otherwise (erased k e) a f i =
         subst (λ (x : File). Fitting (length (fileText Circuit (eraseFile x))) (length out) (r .number)) (one-file e i)

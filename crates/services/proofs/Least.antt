@@ -8,22 +8,23 @@ use lib.ListN.{length}
 use Rattle.fields.specs.Pieces.{Bytes}
 use Rattle.model.specs.declared.Answer.{Answer}
 use Rattle.model.specs.declared.Answer.the-variants.{Done, Level, Refused}
-use Rattle.model.specs.declared.Grammar.the-variants.{Circuit}
+use Rattle.model.specs.declared.Grammar.the-variants.{Circuit, Schedule}
 use Rattle.model.specs.Scales.{withTop}
 use Rattle.model.specs.Files.{File, wellFormed}
 use Rattle.model.specs.Services.{leastLevel}
 use Rattle.model.specs.Refused.{answerFile}
-use Rattle.model.specs.Demands as Demands
+use Rattle.model.proofs.Statements.LeastLevel.{IsLeastLevel}
 use Rattle.model.proofs.Theorems as Model
 use Rattle.model.proofs.Statements.LeastLevel as LeastLevel
-use Rattle.text.specs.Files.{Reading, read, refused, readText, circuitContext}
+use Rattle.rows.specs.Rows.{Reading, read, refused}
+use Rattle.text.specs.Files.{readText, circuitContext, fileText}
 use Rattle.text.proofs.Refusals.{not-zero}
 use Rattle.text.proofs.FileLaws.{FileBack, file-read-written}
 use Rattle.services.specs.declared.Reply.{Reply}
-use Rattle.services.specs.Outcomes.{Outcome, level, refuses, answered, onceRead, leastOutcome, replyOf}
-use Rattle.services.specs.Promises.{Fits, withLevel, Least, TooFewAtSixty, LeastPromise}
-use Rattle.services.proofs.Planning.{plan-stops, first-without}
-use Rattle.services.proofs.Texts.{not-both, one-file, not-too-few, number-told, few-lines, text-inverse, schedulable-lines, schedulable-text}
+use Rattle.services.specs.Outcomes.{Outcome, fitsAt, refuses, answered, onceRead, leastOutcome, replyOf}
+use Rattle.services.specs.Promises.{ReadAs, Plans, Fits, withLevel, Least, NoneFits, LeastPromise}
+use Rattle.services.proofs.Planning.{too-few-at, plans-text}
+use Rattle.services.proofs.Texts.{not-both, one-file, not-too-few, number-told, few-lines, circuit-back, text-inverse}
 
 level-refused : {P : Type 0} {a : Answer} {l n p : ℕ} → a ≡ Level l → a ≡ Refused n p → P
 level-refused e q = absurd (let z : _≡_ {A = ℕ} 0 1 = cc in omega arith)
@@ -31,7 +32,7 @@ level-refused e q = absurd (let z : _≡_ {A = ℕ} 0 1 = cc in omega arith)
 -- ---- what the service comes to
 data LeastCase (circuit : Bytes) : Outcome → Type 0 where
   unread : (n p : ℕ) → readText circuitContext circuit ≡ refused n p → LeastCase circuit (refuses n 1 p)
-  found : (f : File) (l : ℕ) → readText circuitContext circuit ≡ read f → leastLevel f ≡ Level l → LeastCase circuit (level l)
+  found : (f : File) (l : ℕ) → readText circuitContext circuit ≡ read f → leastLevel f ≡ Level l → LeastCase circuit (fitsAt l)
   few : (f : File) (p : ℕ) → readText circuitContext circuit ≡ read f → leastLevel f ≡ Refused 6 p → LeastCase circuit (refuses 6 (answerFile 1 (Refused 6 p)) p)
 
 module _ (circuit : Bytes) where
@@ -54,11 +55,11 @@ module _ (circuit : Bytes) where
           let six = right e .too-few n p q .six in
           subst (λ (m : ℕ). LeastCase circuit (answered 1 (Refused m p))) (sym six) (few f p e (q ∙ ap (λ (m : ℕ). Refused m p) six))
 
-      go : (x : Reading) → readText circuitContext circuit ≡ x → LeastCase circuit (onceRead 1 x (λ f. answered 1 (leastLevel f)))
+      go : (x : Reading File) → readText circuitContext circuit ≡ x → LeastCase circuit (onceRead 1 x (λ f. answered 1 (leastLevel f)))
       go (refused n p) e = unread n p e
       go (read f) e = on-file f e (leastLevel f) refl
 
-  -- at another level the circuit fits as its lines do
+  -- at another level the circuit has a plan where it fits
   module _ {f : File} (e : Reads f) (l : ℕ) (low : 1 ≤ l) (high : l ≤ 60) where
     abbrev at : File
     at = record { header = withTop (f .header) l; lines = f .lines }
@@ -66,58 +67,43 @@ module _ (circuit : Bytes) where
     formed : T (wellFormed Circuit (withTop (f .header) l) (f .lines))
     formed = Model.formed-at-top (f .header) (f .lines) (back e .formed) l low high
 
-    fits-lines : Fits f l → Demands.Schedulable (withTop (f .header) l) (f .lines)
-    fits-lines S = schedulable-lines at formed (few-lines circuitContext (back e)) (withLevel f l) refl S
+    planned : Fits f l → (written : Bytes) × Plans (withLevel f l) written
+    planned S =
+        let w = Model.too-few-levels at formed .writes-if S in
+        (fileText Schedule (w .schedule), plans-text (withLevel f l) (circuit-back at formed (few-lines circuitContext (back e))) (w .writes))
 
-    fits-text : Demands.Schedulable (withTop (f .header) l) (f .lines) → Fits f l
-    fits-text S = schedulable-text at formed (few-lines circuitContext (back e)) (withLevel f l) refl S
-
-  -- what fits at a level fits at 60
-  higher : {f : File} → Reads f → (k : ℕ) → 1 ≤ k → k ≤ 60 → Fits f k → Fits f 60
-  higher {f} e k low high S =
-      fits-text e 60 (omega arith) (omega arith)
-      (Model.higher-levels (withTop (f .header) k) (f .lines) (Model.formed-at-top (f .header) (f .lines) (back e .formed) k low high) 60 high (omega arith) (fits-lines e k low high S))
+    -- what fits at a level fits at 60
+    higher : Fits f l → Fits f 60
+    higher S = Model.higher-levels (withTop (f .header) l) (f .lines) formed 60 high (omega arith) S
 
   none-at-sixty : {f : File} (p : ℕ) → Reads f → leastLevel f ≡ Refused 6 p → Fits f 60 → ⊥
-  none-at-sixty {f} p e q S = right e .too-few 6 p q .no-schedule (fits-lines e 60 (omega arith) (omega arith) S)
+  none-at-sixty {f} p e q S = right e .too-few 6 p q .no-schedule S
 
   module _ (r : Reply) where
-    least : {o : Outcome} → LeastCase circuit o → r ≡ replyOf o → r .number ≡ 0 → Least circuit (r .length)
+    least : {o : Outcome} → LeastCase circuit o → r ≡ replyOf o → r .number ≡ 0 → ReadAs circuitContext circuit (Least (r .length))
     least (unread n p e) a z = absurd (not-zero (number-told circuitContext circuit n p e) (sym (ap (λ (q : Reply). q .number) a) ∙ z))
     least (few f p e q) a z = absurd (let six = ap (λ (q : Reply). q .number) a in omega arith)
-    least (found f l e q) a z = subst (Least circuit) (sym (ap (λ (q : Reply). q .length) a)) (is-least (right e .level l q))
+    least (found f l e q) a z = subst (λ (k : ℕ). ReadAs circuitContext circuit (Least k)) (sym (ap (λ (q : Reply). q .length) a)) (is-least (right e .level l q))
       where
-        is-least : Demands.IsLeastLevel (f .header) (f .lines) l → Least circuit l
+        is-least : IsLeastLevel (f .header) (f .lines) l → ReadAs circuitContext circuit (Least l)
         is-least i =
-            record {
-              file = f;
-              reads = e;
-              low = i .low;
-              high = i .high;
-              fits = fits-text e l (i .low) (i .high) (i .fits);
-              least = λ k u v S. i .least k u v (fits-lines e k u (let most = i .high in omega arith) S);
-            }
+            let p = planned e l (i .low) (i .high) (i .fits) in
+            record { file = f; reads = e; is = record { low = i .low; high = i .high; fits = i .fits; least = i .least; written = p .0; plans = p .1 } }
 
-    too-few : {o : Outcome} → LeastCase circuit o → r ≡ replyOf o → r .number ≡ 6 → TooFewAtSixty circuit (r .place)
+    too-few : {o : Outcome} → LeastCase circuit o → r ≡ replyOf o → r .number ≡ 6 → ReadAs circuitContext circuit (NoneFits (r .place))
     too-few (unread n p e) a z = absurd (not-too-few (number-told circuitContext circuit n p e) (sym (ap (λ (q : Reply). q .number) a) ∙ z))
     too-few (found f l e q) a z = absurd (let none = ap (λ (q : Reply). q .number) a in omega arith)
     too-few (few f p e q) a z =
-        let stop = plan-stops (LeastLevel.atSixty f) p (right e .too-few 6 p q .as-planned) in
-        record {
-          file = f;
-          reads = e;
-          no-schedule = λ k low high S. none-at-sixty p e q (higher e k low high S);
-          line = stop .line;
-          place-is = ap (λ (q : Reply). q .place) a ∙ stop .place-is;
-          stops = stop .stops;
-          first = first-without (LeastLevel.atSixty f) p (Model.formed-at-top (f .header) (f .lines) (back e .formed) 60 (omega arith) (omega arith)) (right e .too-few 6 p q .as-planned) stop;
-        }
+        let sixty = LeastLevel.atSixty f in
+        let formed = Model.formed-at-top (f .header) (f .lines) (back e .formed) 60 (omega arith) (omega arith) in
+        let few-at = too-few-at sixty p formed (right e .too-few 6 p q .as-planned) (ap (λ (q : Reply). q .place) a) in
+        record { file = f; reads = e; is = record { none-fits = λ k low high S. none-at-sixty p e q (higher e k low high S); at-sixty = few-at } }
 
     too-few-if : {o : Outcome} → LeastCase circuit o → r ≡ replyOf o → (f : File) → Reads f → (Fits f 60 → ⊥) → r .number ≡ 6
     too-few-if (unread n p e) a f i none = not-both i e
     too-few-if (few k p e q) a f i none = ap (λ (q : Reply). q .number) a
     too-few-if (found k l e q) a f i none =
-        level-refused q (right e .too-few-if (λ S. none (subst (λ (x : File). Fits x 60) (one-file e i) (fits-text e 60 (omega arith) (omega arith) S))) .says)
+        level-refused q (right e .too-few-if (λ S. none (subst (λ (x : File). Fits x 60) (one-file e i) S)) .says)
 
     otherwise : {o : Outcome} → LeastCase circuit o → r ≡ replyOf o → (f : File) → Reads f → Fits f 60 → r .number ≡ 0
     otherwise (unread n p e) a f i S = not-both i e

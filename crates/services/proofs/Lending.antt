@@ -34,7 +34,8 @@ module _ (out : Bytes) (r : Reply) (after : Bytes) where
         replied = record { reply = e; bytes = b };
         refused-unchanged = by-room ((r .number ≡ 0 → ⊥) → after ≡ out) t e b (λ u q w n. absurd (n (ap (λ (q : Reply). q .number) q))) (λ q w n. w);
         rest-unchanged = by-room (r .number ≡ 0 → drop (r .length) after ≡ drop (r .length) out) t e b
-            (λ u q w n. ap (λ (q : Reply). drop (q .length) after) q ∙ ap (drop (length t)) w ∙ drop-append-seam t (drop (length t) out) ∙ sym (ap (λ (q : Reply). drop (q .length) out) q))
+            (λ u q w n. ap (λ (q : Reply). drop (q .length) after) q ∙ ap (drop (length t)) w ∙ drop-append-seam t (drop (length t) out)
+            ∙ sym (ap (λ (q : Reply). drop (q .length) out) q))
             (λ q w n. ap (drop (r .length)) w);
         length-fits = by-room (r .number ≡ 0 → r .length ≤ length out) t e b
             (λ u q w n. let same = ap (λ (q : Reply). q .length) q in omega arith) (λ q w n. let same = ap (λ (q : Reply). q .length) q in omega arith);

@@ -1,9 +1,11 @@
+pub mod Cases
 pub mod Lending
 pub mod Steps
 pub mod Texts
+pub mod Differences
 pub mod Planning
 pub mod Checking
 pub mod Erasing
 pub mod Least
 pub mod Program
-pub mod Worked
+pub mod Examples

@@ -12,24 +12,23 @@ use Rattle.fields.specs.Pieces.{Bytes}
 use Rattle.model.specs.declared.Grammar.the-variants.{Schedule}
 use Rattle.model.specs.Words.{ascii}
 use Rattle.model.specs.Files.{File}
-use Rattle.model.specs.Services as Services
-use Rattle.model.specs.Services.{plan}
+use Rattle.model.specs.Services.{scheduled, plan}
 use Rattle.model.proofs.Theorems as Model
-use Rattle.text.specs.Files.{Reading, read, readText, circuitContext}
-use Rattle.text.specs.Write.{fileText}
+use Rattle.rows.specs.Rows.{Reading, read}
+use Rattle.text.specs.Files.{readText, circuitContext, fileText}
 use Rattle.text.proofs.FileLaws.{file-read-written}
 use Rattle.text.proofs.Most.{text-most, two-numbers-most}
 use Rattle.text.proofs.Theorems as Text
 use Rattle.services.specs.declared.Reply.{Reply}
-use Rattle.services.specs.Outcomes.{Outcome, writes, refuses, onceRead, planned, planOutcome, replyOf, bytesAfter, Replied, refusedLine, printed, programText}
-use Rattle.services.specs.Promises.{ProgramPromise}
+use Rattle.services.specs.Program.{refusedLine, printed, programText, ProgramPromise}
+use Rattle.services.specs.Outcomes.{Outcome, writes, refuses, onceRead, planned, planOutcome, replyOf, bytesAfter, Replied}
 use Rattle.services.proofs.Planning.{PlanCase, unread, few, written, plan-case}
 use Rattle.services.proofs.Texts.{few-lines, number-told}
 use Rattle.text.proofs.Refusals.{not-zero}
 
 pub decided : (input more : Bytes) → 3882 ≤ length input → programText (input ++ more) ≡ programText input
 decided input more long =
-    ap (λ (x : Reading). printed (onceRead 1 x (λ f. planned (plan f))))
+    ap (λ (x : Reading File). printed (onceRead 1 x (λ f. planned (plan f))))
     (Text.first-bytes (input ++ more) ∙ ap (readText circuitContext) (take-append-le 3882 input more long) ∙ sym (Text.first-bytes input))
 
 -- the line of a refusal is short
@@ -42,7 +41,7 @@ pub record Refusing (input out : Bytes) (r : Reply) (after : Bytes) : Type 0 whe
   pub line-is : programText input ≡ refusedLine (r .number) (r .place)
 
 -- a plan's text is short
-pub plan-short : (input : Bytes) (f s : File) → readText circuitContext input ≡ read f → plan f ≡ Services.written s → length (fileText Schedule s) ≤ 131072
+pub plan-short : (input : Bytes) (f s : File) → readText circuitContext input ≡ read f → plan f ≡ scheduled s → length (fileText Schedule s) ≤ 131072
 plan-short input f s e q =
     let b = file-read-written circuitContext input e in
     let lines = Model.the-plan f (b .formed) s q .few (few-lines circuitContext b) in

@@ -3,11 +3,11 @@ use Prim.Native.Nat.{ℕ}
 use mathlib.Core.Path.{_≡_, refl, subst}
 use Rattle.fields.specs.Pieces.{Bytes}
 use Rattle.model.specs.Files.{File}
-use Rattle.text.specs.Files.{Reading, read, refused}
+use Rattle.rows.specs.Rows.{Reading, read, refused}
 use Rattle.services.specs.declared.Reply.{Reply}
 use Rattle.services.specs.Outcomes.{Outcome, refuses, onceRead, replyOf, Replied}
 
-module _ (number : ℕ) {x : Reading} (more : File → Outcome) where
+module _ (number : ℕ) {x : Reading File} (more : File → Outcome) where
   pub once-read : (f : File) → x ≡ read f → more f ≡ onceRead number x more
   once-read f e = rw e
 

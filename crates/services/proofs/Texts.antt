@@ -1,4 +1,4 @@
--- The demands' terms on bytes and on files are the same: a text and the file that it reads to pass together, and have a schedule together.
+-- A text and the file that it reads to pass together.
 -- Assumes nothing.
 use Prim.Native.Nat.{ℕ, _≤_}
 use native.Mathlib.Omega.{arith}
@@ -11,46 +11,56 @@ use Rattle.model.specs.declared.Line.{Line}
 use Rattle.model.specs.declared.Grammar.the-variants.{Circuit, Schedule}
 use Rattle.model.specs.Files.{File, wellFormed, limit}
 use Rattle.model.specs.Services.{erase, eraseFile}
-use Rattle.model.specs.Demands as Demands
+use Rattle.model.proofs.Statements.Check.{PassedFiles}
 use Rattle.model.proofs.Tests.{and-first, and-both}
 use Rattle.model.proofs.Theorems as Model
 use Rattle.text.specs.declared.Context.{Context}
-use Rattle.text.specs.Files.{Reading, read, refused, keptCount, readText, fewEnough, circuitContext, scheduleContext}
-use Rattle.text.specs.Write.{fileText}
+use Rattle.rows.specs.Rows.{Reading, read, refused}
+use Rattle.text.specs.Files.{keptCount, readText, fewEnough, circuitContext, scheduleContext, fileText}
 use Rattle.text.proofs.Statements.Refusals as Numbers
 use Rattle.text.proofs.FileLaws.{FileBack, kept-most, file-written-read, file-read-written}
 use Rattle.text.proofs.Unique.{text-of-one}
 use Rattle.text.proofs.Theorems as Text
-use Rattle.services.specs.Promises.{IsInverse, Passed, IsExact, Schedulable}
+use Rattle.services.specs.Promises.{IsInverse, BothRead, Passed, IsExact}
 
 -- ---- readings
 -- a text is read or refused, and to one file
-pub not-both : {P : Type 0} {x : Reading} {f : File} {n p : ℕ} → x ≡ read f → x ≡ refused n p → P
+pub not-both : {P : Type 0} {x : Reading File} {f : File} {n p : ℕ} → x ≡ read f → x ≡ refused n p → P
 not-both e q = absurd (let z : _≡_ {A = ℕ} 0 1 = cc in omega arith)
 
-pub one-file : {x : Reading} {f k : File} → x ≡ read f → x ≡ read k → f ≡ k
+pub one-file : {x : Reading File} {f k : File} → x ≡ read f → x ≡ read k → f ≡ k
 one-file e q = cc
 
--- the numbers with which reading refuses are not 6
+-- the numbers with which reading refuses are not 6, and above it 11 alone
+record Told (n : ℕ) : Type 0 where
+  not-six : n ≡ 6 → ⊥
+  above : 7 ≤ n → n ≡ 11
+
+told : {n : ℕ} → Numbers.IsNumber n → Told n
+told Numbers.form = omega arith
+told Numbers.header = omega arith
+told Numbers.many = omega arith
+told Numbers.operand = omega arith
+told Numbers.kind = omega arith
+told Numbers.range = omega arith
+
 pub not-too-few : {n : ℕ} → Numbers.IsNumber n → n ≡ 6 → ⊥
-not-too-few Numbers.form e = omega arith
-not-too-few Numbers.header e = omega arith
-not-too-few Numbers.lines e = omega arith
-not-too-few Numbers.operand e = omega arith
-not-too-few Numbers.kind e = omega arith
-not-too-few Numbers.range e = omega arith
+not-too-few i = told i .not-six
+
+pub eleven : {n : ℕ} → Numbers.IsNumber n → 7 ≤ n → n ≡ 11
+eleven i = told i .above
 
 pub number-told : (c : Context) (text : Bytes) (n p : ℕ) → readText c text ≡ refused n p → Numbers.IsNumber n
 number-told c text n p e = Text.refusals .refusal c text n p e .number
 
 pub few-lines : (c : Context) {text : Bytes} {f : File} → FileBack c text f → length (f .lines) ≤ c .limit
-few-lines c {text} {f} b = leb→le (length (f .lines)) (c .limit) (and-first (leb (length (f .lines)) (c .limit)) (leb (keptCount (f .lines)) (c .kept)) (b .few))
+few-lines c {text} {f} b = leb→le (length (f .lines)) (c .limit) (and-first (leb (length (f .lines)) (c .limit)) (leb (keptCount (f .lines)) (c .keptlimit)) (b .few))
 
-pub fits-context : (c : Context) (f : File) → length (f .lines) ≤ c .limit → c .limit ≤ c .kept → T (fewEnough c (f .lines))
+pub fits-context : (c : Context) (f : File) → length (f .lines) ≤ c .limit → c .limit ≤ c .keptlimit → T (fewEnough c (f .lines))
 fits-context c f few low =
     let kept = kept-most (f .lines) in
-    and-both (leb (length (f .lines)) (c .limit)) (leb (keptCount (f .lines)) (c .kept)) (le→leb (length (f .lines)) (c .limit) few)
-    (le→leb (keptCount (f .lines)) (c .kept) (omega arith))
+    and-both (leb (length (f .lines)) (c .limit)) (leb (keptCount (f .lines)) (c .keptlimit)) (le→leb (length (f .lines)) (c .limit) few)
+    (le→leb (keptCount (f .lines)) (c .keptlimit) (omega arith))
 
 -- a circuit's text, and a schedule's, are read back
 pub circuit-back : (f : File) → T (wellFormed Circuit (f .header) (f .lines)) → length (f .lines) ≤ limit Circuit → readText circuitContext (fileText Circuit f) ≡ read f
@@ -68,47 +78,26 @@ text-inverse c most text file = (
 
 -- ---- passing
 module _ (circuit schedule : Bytes) where
-  pub passed-files : (p : Passed circuit schedule) → Demands.Passed (p .circuit-file) (p .schedule-file)
+  pub passed-files : (p : Passed circuit schedule) → PassedFiles (p .files .circuit-file) (p .files .schedule-file)
   passed-files p =
-      let c = file-read-written circuitContext circuit (p .circuit-reads) in
-      let s = file-read-written scheduleContext schedule (p .schedule-reads) in
-      let e = Model.erasing (p .schedule-file .header) (p .schedule-file .lines) (s .formed) in
+      let c = file-read-written circuitContext circuit (p .files .circuit-reads) in
+      let s = file-read-written scheduleContext schedule (p .files .schedule-reads) in
+      let e = Model.erasing (p .files .schedule-file .header) (p .files .schedule-file .lines) (s .formed) in
       record {
         circuit-formed = c .formed;
         schedule-formed = s .formed;
         keeps = p .keeps;
-        erases = text-of-one circuitContext (omega arith) (omega arith) circuit (p .circuit-reads) (eraseFile (p .schedule-file)) (e .formed) (p .erases);
+        erases = text-of-one circuitContext (omega arith) (omega arith) circuit (p .files .circuit-reads) (eraseFile (p .files .schedule-file)) (e .formed) (p .erases);
       }
 
-  pub passed-texts : {c s : File} → readText circuitContext circuit ≡ read c → readText scheduleContext schedule ≡ read s → Demands.Passed c s → Passed circuit schedule
+  pub passed-texts : {c s : File} → readText circuitContext circuit ≡ read c → readText scheduleContext schedule ≡ read s → PassedFiles c s → Passed circuit schedule
   passed-texts {c} {s} reads reads′ p =
       let b = file-read-written circuitContext circuit reads in
       record {
-        circuit-file = c;
-        schedule-file = s;
-        circuit-reads = reads;
-        schedule-reads = reads′;
+        files = record { circuit-file = c; schedule-file = s; circuit-reads = reads; schedule-reads = reads′ };
         keeps = p .keeps;
         erases = ap (fileText Circuit) (p .erases) ∙ b .written;
       }
 
   pub passed-exact : (p : Passed circuit schedule) → IsExact circuit schedule p
-  passed-exact p H = Model.exactness (p .circuit-file) (p .schedule-file) (passed-files p) H
-
--- ---- having a schedule
-module _ (f : File) (formed : T (wellFormed Circuit (f .header) (f .lines))) (few : length (f .lines) ≤ limit Circuit) (circuit : Bytes) (written : fileText Circuit f ≡ circuit) where
-  pub schedulable-lines : Schedulable (f .header) circuit → Demands.Schedulable (f .header) (f .lines)
-  schedulable-lines S =
-      let e = Model.erasing (f .header) (S .schedule) (S .formed) in
-      let same = text-of-one circuitContext (omega arith) (omega arith) circuit (ap (readText circuitContext) (sym written) ∙ circuit-back f formed few)
-      (record { header = f .header; lines = erase (S .schedule) }) (e .formed) (S .erases) in
-      record { schedule = S .schedule; formed = S .formed; keeps = S .keeps; erases = ap (λ (k : File). k .lines) same }
-
-  pub schedulable-text : Demands.Schedulable (f .header) (f .lines) → Schedulable (f .header) circuit
-  schedulable-text S =
-      record {
-        schedule = S .schedule;
-        formed = S .formed;
-        keeps = S .keeps;
-        erases = ap (λ (xs : List Line). fileText Circuit (record { header = f .header; lines = xs })) (S .erases) ∙ written;
-      }
+  passed-exact p H = Model.exactness (p .files .circuit-file) (p .files .schedule-file) (passed-files p) H

@@ -1,6 +1,7 @@
--- Document 01, "Worked with F = 60, W = 20": its cases, those with * and the others, as rows of one table, on whole files, and then rows of our
--- own. A row is a question, its input and the outcome. A question is a service, the program, or scale and level of a value under the rules.
-use Prim.Native.Nat.{ℕ}
+-- Document 01, "Worked with F = 60, W = 20": its cases, those with * and the others, as rows of one table, on whole files, and then rows
+-- of our own. A row is a question, its input and the outcome. A question is a service, the program, or scale and level of a value under the
+-- rules.
+use Prim.Native.Nat.{ℕ, zero, suc}
 use Prim.Native.Char.{code}
 use Prim.Native.String as Text
 use Prim.Native.String.{String}
@@ -9,34 +10,41 @@ use mathlib.Core.List.{List, [], _∷_}
 use mathlib.Core.Option.{Option, none, some}
 use lib.Dec.{eqb}
 use lib.ListN.{getElem?}
-use Rattle.fields.specs.Pieces.{Bytes}
+use Rattle.fields.specs.Pieces.{Bytes, sameBytes}
 use Rattle.model.specs.declared.Found.{Found}
 use Rattle.model.specs.declared.Found.the-variants as Founds
-use Rattle.model.specs.Files.{placeOf}
+use Rattle.rows.specs.Rows.{placeOf, Reading, read, refused}
+use Rattle.model.specs.Files.{File}
 use Rattle.model.specs.Machine.{Run, finished, stopped, run}
-use Rattle.model.specs.Refused.{checkMachine, sameNumbers}
-use Rattle.text.specs.Files.{Reading, read, refused, readText, scheduleContext}
-use Rattle.services.specs.Outcomes.{Outcome, writes, passes, level, refuses, planOutcome, checkOutcome, eraseOutcome, leastOutcome, lent, programText}
+use Rattle.model.specs.Refused.{checkMachine}
+use Rattle.text.specs.Files.{readText, scheduleContext}
+use Rattle.services.specs.declared.Reply.{Reply}
+use Rattle.services.specs.Outcomes.{Outcome, writes, passes, fitsAt, refuses}
+use Rattle.services.specs.Outcomes.{planOutcome, checkOutcome, eraseOutcome, leastOutcome, lent, replyOf}
+use Rattle.services.specs.Program.{programText}
 
 -- a text "shown here with spaces for tabs"
 abbrev pub shown : String → Bytes
 shown Text.[] = []
 shown (Text._∷_ c rest) = cond (eqb (code c) 32) 9 (code c) ∷ shown rest
 
--- Plan this circuit, and with a buffer of so many bytes; give its least top level; check this schedule against a circuit; erase this
--- schedule, and with a buffer of so many bytes; what the program prints of this circuit; scale and level of a value of this schedule under the rules.
+-- Plan this circuit; give its least top level; check this schedule against a circuit; erase this schedule; what a call comes to with
+-- a buffer of so many bytes; its whole reply; what the program prints of this circuit; scale and level of a value of this schedule under
+-- the rules.
 pub data Question : Type 0 where
   plan : Question
-  planInto : ℕ → Question
   least : Question
   checkAgainst : String → Question
   erase : Question
-  eraseInto : ℕ → Question
+  withRoom : ℕ → Question → Question
+  replyTo : Question → Question
   program : Question
   scaleOf : ℕ → Question
 
 pub data Finding : Type 0 where
   comesTo : Outcome → Finding
+  -- a reply's number, file, place and length
+  gives : ℕ → ℕ → ℕ → ℕ → Finding
   prints : Bytes → Finding
   scaleAndLevel : ℕ → ℕ → Finding
   unscaled : Finding
@@ -57,17 +65,28 @@ abbrev pub ruled : ℕ → Run Found ℕ → Finding
 ruled v (finished found) = foundAt (getElem? found v)
 ruled v (stopped i n) = comesTo (refuses n 2 (placeOf i))
 
-abbrev pub onSchedule : ℕ → Reading → Finding
+abbrev pub onSchedule : ℕ → Reading File → Finding
 onSchedule v (read file) = ruled v (run (checkMachine (file .header)) (file .lines))
 onSchedule v (refused n p) = comesTo (refuses n 2 p)
 
+-- a finding that is an outcome, otherwise told
+abbrev pub onOutcome : (Outcome → Finding) → Finding → Finding
+onOutcome f (comesTo outcome) = f outcome
+onOutcome f (gives n file place l) = gives n file place l
+onOutcome f (prints text) = prints text
+onOutcome f (scaleAndLevel s l) = scaleAndLevel s l
+onOutcome f unscaled = unscaled
+
+abbrev pub givenBy : Reply → Finding
+givenBy r = gives (r .number) (r .file) (r .place) (r .length)
+
 abbrev pub findingOf : Question → Bytes → Finding
 findingOf plan input = comesTo (planOutcome input)
-findingOf (planInto room) input = comesTo (lent room (planOutcome input))
 findingOf least input = comesTo (leastOutcome input)
 findingOf (checkAgainst circuit) input = comesTo (checkOutcome (shown circuit) input)
 findingOf erase input = comesTo (eraseOutcome input)
-findingOf (eraseInto room) input = comesTo (lent room (eraseOutcome input))
+findingOf (withRoom room question) input = onOutcome (λ o. comesTo (lent room o)) (findingOf question input)
+findingOf (replyTo question) input = onOutcome (λ o. givenBy (replyOf o)) (findingOf question input)
 findingOf program input = prints (programText input)
 findingOf (scaleOf v) input = onSchedule v (readText scheduleContext input)
 
@@ -75,14 +94,15 @@ findingOf (scaleOf v) input = onSchedule v (readText scheduleContext input)
 abbrev pub findingCode : Finding → List ℕ
 findingCode (comesTo (writes text)) = 0 ∷ text
 findingCode (comesTo passes) = 1 ∷ []
-findingCode (comesTo (level l)) = 2 ∷ l ∷ []
+findingCode (comesTo (fitsAt l)) = 2 ∷ l ∷ []
 findingCode (comesTo (refuses n f p)) = 3 ∷ n ∷ f ∷ p ∷ []
 findingCode (prints text) = 4 ∷ text
 findingCode (scaleAndLevel s l) = 5 ∷ s ∷ l ∷ []
 findingCode unscaled = 6 ∷ []
+findingCode (gives n f p l) = 7 ∷ n ∷ f ∷ p ∷ l ∷ []
 
 abbrev pub rowHolds : Row → Bool
-rowHolds r = sameNumbers (findingCode (findingOf (r .question) (shown (r .input)))) (findingCode (r .finding))
+rowHolds r = sameBytes (findingCode (findingOf (r .question) (shown (r .input)))) (findingCode (r .finding))
 
 abbrev pub allHold : List Row → Bool
 allHold [] = true
@@ -115,6 +135,19 @@ fourth = "circuit 60 20 1\nin\nmul 0 0\nmul 1 1\n"
 abbrev pub sixteenth : String
 sixteenth = "circuit 60 20 2\nin\nmul 0 0\nmul 1 1\nmul 2 2\nmul 3 3\n"
 
+-- a text, and a line so many times after it
+abbrev pub append : String → String → String
+append Text.[] more = more
+append (Text._∷_ c rest) more = Text._∷_ c (append rest more)
+
+abbrev pub withLines : String → ℕ → String → String
+withLines text zero line = text
+withLines text (suc n) line = withLines (append text line) n line
+
+-- one line more than allowed
+abbrev pub inputs257 : String
+inputs257 = withLines "circuit 60 20 2\n" 257 "in\n"
+
 -- the row past the end of the table
 abbrev pub noRow : Row
 noRow = row "" plan (refusedAt 1 1 1)
@@ -123,7 +156,7 @@ abbrev pub table : List Row
 table =
     -- "Header only: header only back; least level 1."
     row "circuit 60 20 1\n" plan (written "schedule 60 20 1\n")
-    ∷ row "circuit 60 20 1\n" least (comesTo (level 1))
+    ∷ row "circuit 60 20 1\n" least (comesTo (fitsAt 1))
     -- "x² at L = 1: scale 40, level 1. x⁴ by two squarings, L = 1: 6 at place 4."
     ∷ row "circuit 60 20 1\nin\nmul 0 0\n" plan (written "schedule 60 20 1\nin\nmul 0 0\n")
     ∷ row "schedule 60 20 1\nin\nmul 0 0\n" (scaleOf 1) (scaleAndLevel 40 1)
@@ -133,7 +166,7 @@ table =
     (written "schedule 60 20 2\nin\nmul 0 0\nmul 1 1\nrs 2 1\nrs 2 1\nmul 3 4\n")
     ∷ row "schedule 60 20 2\nin\nmul 0 0\nmul 1 1\nrs 2 1\nrs 2 1\nmul 3 4\n" (scaleOf 5) (scaleAndLevel 40 1)
     ∷ row sixteenth plan (refusedAt 6 1 6)
-    ∷ row sixteenth least (comesTo (level 3))
+    ∷ row sixteenth least (comesTo (fitsAt 3))
     -- "`rs` by 1 at scale 80 gives 20; at 79 refused 10."
     ∷ row "schedule 60 20 2\nin\nus 0 60\nrs 1 1\n" (scaleOf 1) (scaleAndLevel 80 2)
     ∷ row "schedule 60 20 2\nin\nus 0 60\nrs 1 1\n" (scaleOf 2) (scaleAndLevel 20 1)
@@ -158,10 +191,34 @@ table =
     ∷ row listingPlan (checkAgainst listing) (comesTo passes)
     ∷ row listingByHand (checkAgainst listing) (comesTo passes)
     -- the plan's text has 111 bytes: a buffer of that length is enough, and none below it
-    ∷ row listing (planInto 111) (written listingPlan)
-    ∷ row listing (planInto 110) (refusedAt 13 0 0)
-    ∷ row "schedule 60 20 2\nin\nus 0 7\n" (eraseInto 19) (written "circuit 60 20 2\nin\n")
-    ∷ row "schedule 60 20 2\nin\nus 0 7\n" (eraseInto 18) (refusedAt 13 0 0)
+    ∷ row listing (withRoom 111 plan) (written listingPlan)
+    ∷ row listing (withRoom 110 plan) (refusedAt 13 0 0)
+    ∷ row "schedule 60 20 2\nin\nus 0 7\n" (withRoom 19 erase) (written "circuit 60 20 2\nin\n")
+    ∷ row "schedule 60 20 2\nin\nus 0 7\n" (withRoom 18 erase) (refusedAt 13 0 0)
+    -- whole replies: nothing refused is number, file and place 0, and a length where a text or a level is given; a refusal has length 0
+    ∷ row listing (replyTo (withRoom 111 plan)) (gives 0 0 0 111)
+    ∷ row listing (replyTo (withRoom 110 plan)) (gives 13 0 0 0)
+    ∷ row fourth (replyTo (withRoom 111 plan)) (gives 6 1 4 0)
+    ∷ row listingByHand (replyTo (checkAgainst listing)) (gives 0 0 0 0)
+    ∷ row listingByHand (replyTo (checkAgainst fourth)) (gives 12 1 1 0)
+    ∷ row "schedule 60 20 2\nin\nms 0 3\n" (replyTo (checkAgainst "circuit 60 20 2\nin\n")) (gives 9 2 3 0)
+    ∷ row "schedule 60 20 2\nin\nus 0 7\n" (replyTo (withRoom 19 erase)) (gives 0 0 0 19)
+    ∷ row "schedule 60 20 2\nneg 0\n" (replyTo (withRoom 19 erase)) (gives 4 1 2 0)
+    ∷ row sixteenth (replyTo least) (gives 0 0 0 3)
+    ∷ row "circuit 1 60 1\nin\nmul 0 0\n" (replyTo least) (gives 6 1 3 0)
+    -- "13 … after all else": 1, 2, 3, 4, 5, 11 and 6, with no buffer at all
+    ∷ row "circuit 60 20 2\nin\n\n" (withRoom 0 plan) (refusedAt 1 1 3)
+    ∷ row "circuit 60 20 61\n" (withRoom 0 plan) (refusedAt 2 1 1)
+    ∷ row inputs257 (withRoom 0 plan) (refusedAt 3 1 258)
+    ∷ row "circuit 60 20 2\nneg 0\n" (withRoom 0 plan) (refusedAt 4 1 2)
+    ∷ row "circuit 60 20 2\nconst 1\nneg 0\n" (withRoom 0 plan) (refusedAt 5 1 3)
+    ∷ row "circuit 60 20 2\nconst 65536\n" (withRoom 0 plan) (refusedAt 11 1 2)
+    ∷ row fourth (withRoom 0 plan) (refusedAt 6 1 4)
+    ∷ row "schedule 60 20 2\nin\nrs 0\n" (withRoom 0 erase) (refusedAt 1 1 3)
+    ∷ row "schedule 0 20 2\n" (withRoom 0 erase) (refusedAt 2 1 1)
+    ∷ row "schedule 60 20 2\nin\nrs 1 1\n" (withRoom 0 erase) (refusedAt 4 1 3)
+    ∷ row "schedule 60 20 2\nin\nenc 0 20 2\n" (withRoom 0 erase) (refusedAt 5 1 3)
+    ∷ row "schedule 60 20 2\nin\nrs 0 61\n" (withRoom 0 erase) (refusedAt 11 1 3)
     -- 4, 5, and in a line with two faults the form before the range, the range before the operand, the operand before the kind
     ∷ row "circuit 60 20 2\nneg 0\n" plan (refusedAt 4 1 2)
     ∷ row "circuit 60 20 2\nconst 1\nneg 0\n" plan (refusedAt 5 1 3)
@@ -177,10 +234,11 @@ table =
     ∷ row "schedule 60 20 2\nin\n" (checkAgainst "circuit 60 20 2\nin\nout 0\n") (refusedAt 12 1 3)
     ∷ row "schedule 60 20 2\nin\n" (checkAgainst "circuit 60 20 1\nin\n") (refusedAt 12 1 1)
     ∷ row "schedule 60 20 1\nin\nus 0 41\n" (checkAgainst "circuit 60 20 1\nin\nin\n") (refusedAt 12 1 3)
-    -- 7, 8, 7 before 8, 10 before 9, a negative scale, a negative level, the first of two broken lines
+    -- 7, 8, 7 before 8, 7 before 9, 10 before 9, a negative scale, a negative level, the first of two broken lines
     ∷ row "schedule 60 20 2\nin\nms 0 1\nmul 0 1\n" (checkAgainst "circuit 60 20 2\nin\nmul 0 0\n") (refusedAt 7 2 4)
     ∷ row "schedule 60 20 2\nin\nus 0 1\nadd 0 1\n" (checkAgainst "circuit 60 20 2\nin\nadd 0 0\n") (refusedAt 8 2 4)
     ∷ row "schedule 60 20 2\nin\nms 0 1\nus 1 1\nadd 0 2\n" (checkAgainst "circuit 60 20 2\nin\nadd 0 0\n") (refusedAt 7 2 5)
+    ∷ row "schedule 60 20 2\nin\nus 0 90\nms 0 1\nmul 1 2\n" (checkAgainst "circuit 60 20 2\nin\nmul 0 0\n") (refusedAt 7 2 5)
     ∷ row "schedule 1 60 60\nin\nconst 1\nenc 1 2 1\n" (checkAgainst "circuit 1 60 60\nin\nconst 1\n") (refusedAt 10 2 4)
     ∷ row "schedule 60 20 2\nin\nrs 0 3\n" (checkAgainst "circuit 60 20 2\nin\n") (refusedAt 10 2 3)
     ∷ row "schedule 60 20 2\nin\nms 0 3\n" (checkAgainst "circuit 60 20 2\nin\n") (refusedAt 9 2 3)
@@ -190,8 +248,11 @@ table =
     ∷ row "circuit 1 60 1\nin\nmul 0 0\n" least (refusedAt 6 1 3)
     -- plans: unequal m's in both orders, with all three conversions; a tie; constants in either place
     ∷ row "circuit 19 26 12\nin\nmul 0 0\nmul 1 1\nmul 1 2\nmul 2 1\n" plan
-    (written "schedule 19 26 12\nin\nmul 0 0\nrs 1 1\nrs 1 1\nmul 2 3\nms 1 1\nus 5 12\nrs 6 2\nrs 4 2\nmul 7 8\nrs 4 2\nms 1 1\nus 11 12\nrs 12 2\nmul 10 13\n")
-    ∷ row "circuit 24 12 4\nin\nmul 0 0\nmul 1 1\n" plan (written "schedule 24 12 4\nin\nmul 0 0\nus 1 12\nrs 2 1\nus 1 12\nrs 4 1\nmul 3 5\n")
+    (written
+    (append "schedule 19 26 12\nin\nmul 0 0\nrs 1 1\nrs 1 1\nmul 2 3\n"
+    (append "ms 1 1\nus 5 12\nrs 6 2\nrs 4 2\nmul 7 8\n" "rs 4 2\nms 1 1\nus 11 12\nrs 12 2\nmul 10 13\n")))
+    ∷ row "circuit 24 12 4\nin\nmul 0 0\nmul 1 1\n" plan
+    (written "schedule 24 12 4\nin\nmul 0 0\nus 1 12\nrs 2 1\nus 1 12\nrs 4 1\nmul 3 5\n")
     ∷ row "circuit 60 20 2\nin\nconst 5\nadd 0 1\nadd 1 2\nmul 1 3\nneg 4\nrot 5 -3\nout 6\n" plan
     (written "schedule 60 20 2\nin\nconst 5\nenc 1 20 2\nadd 0 2\nenc 1 20 2\nadd 4 3\nenc 1 20 2\nmul 6 5\nneg 7\nrot 8 -3\nout 9\n")
     -- erasing a schedule that breaks the rules

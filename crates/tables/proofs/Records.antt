@@ -9,7 +9,7 @@ use lib.Seq.{getD-set-other}
 use Rattle.model.specs.declared.Header.{Header}
 use Rattle.model.specs.declared.Line.{Line}
 use Rattle.model.specs.declared.Line.the-variants.{Free}
-use Rattle.text.specs.Files.{RestFree}
+use Rattle.text.specs.Tables.{RestFree}
 use Rattle.tables.specs.Records.{lineFrom, lineOf, linesOf, freeRecords, held}
 use Rattle.tables.proofs.HeldLines.{lines-set}
 

@@ -3,8 +3,8 @@ use Prim.Native.Nat.{ℕ}
 use mathlib.Core.List.{List, map}
 use lib.ListN.{take}
 use Rattle.model.specs.declared.Best.{Best}
-use Rattle.model.specs.declared.Known.{Known}
+use Rattle.tables.specs.declared.BestEntry.{BestEntry}
 
 -- of the first `count` lines
-abbrev pub bestsOf : ℕ → List Known → List Best
-bestsOf count known = map (λ (k : Known). k .best) (take count known)
+abbrev pub bestsOf : ℕ → List BestEntry → List Best
+bestsOf count known = map (λ (k : BestEntry). k .best) (take count known)

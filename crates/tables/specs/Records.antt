@@ -1,48 +1,41 @@
--- A table's records as the code holds them: four numbers of 16 bits each, the word's, in document 01's order from 1, and then its fields, 0 where
--- it has none. A record whose first number is no word's holds no line: it is free.
-use Prim.Native.Nat.{ℕ}
+-- A table's records as the code holds them: four numbers of 16 bits each, the word's, in document 01's order from 1, and then its fields, 0
+-- where it has none. A record whose first number is no word's holds no line: it is free.
+use Prim.Native.Nat.{ℕ, _+_}
 use mathlib.Core.Bool.{cond}
-use mathlib.Core.List.{List, map}
-use lib.Dec.{eqb}
+use mathlib.Core.List.{List, [], _∷_, map}
 use lib.IntN.{ℤ, pos, _-ℤ_}
 use lib.ListN.{getD, take, replicate}
 use Rattle.model.specs.declared.Header.{Header}
 use Rattle.model.specs.declared.Line.{Line}
-use Rattle.model.specs.declared.Line.the-variants.{In, Const, Neg, Rot, Add, Mul, Out, Enc, Rs, Ms, Us, Free}
-use Rattle.model.specs.Files.{Table}
+use Rattle.model.specs.declared.Grammar.the-variants.{Schedule}
+use Rattle.model.specs.declared.Word.{Word}
+use Rattle.model.specs.declared.Word.the-variants.{Rot, NoWord}
+use Rattle.model.specs.Words.{words, order, sameWord, hasWord}
+use Rattle.model.specs.Files as Files
+use Rattle.model.specs.Files.{said, nth}
+use Rattle.text.specs.Tables.{Table}
 
 -- a rotation's amount is held as a number that is not below zero: 32,768 more
 unfoldable pub amountFrom : ℕ → ℤ
 amountFrom n = pos n -ℤ pos 32768
 
--- the level that a line names, 0 where it names none: the one number that is wider in a line than in its record
+-- the level that a line names, its third number, 0 where it names none: the one number that is wider in a line than in its record
 abbrev pub levelOf : Line → ℕ
-levelOf In = 0
-levelOf (Const k) = 0
-levelOf (Neg a) = 0
-levelOf (Rot a t) = 0
-levelOf (Add a b) = 0
-levelOf (Mul a b) = 0
-levelOf (Out a) = 0
-levelOf (Enc a s e) = e
-levelOf (Rs a c) = 0
-levelOf (Ms a c) = 0
-levelOf (Us a b) = 0
-levelOf Free = 0
+levelOf x = nth (said x .numbers) 2
+
+-- the number of a word in a record, and the word that has a number
+abbrev pub wordNumber : Word → ℕ
+wordNumber w = cond (hasWord Schedule w) (order w + 1) 0
+
+abbrev pub wordFrom : ℕ → Word
+wordFrom n = getD (NoWord ∷ words) n NoWord
+
+-- the line of a word and the three numbers after its own
+abbrev pub lineWith : Word → ℕ → ℕ → ℕ → Line
+lineWith w a b c = Files.lineOf w (pos a ∷ cond (sameWord w Rot) (amountFrom b) (pos b) ∷ pos c ∷ [])
 
 unfoldable pub lineFrom : ℕ → ℕ → ℕ → ℕ → Line
-lineFrom word a b c =
-    cond (eqb word 1) In
-    (cond (eqb word 2) (Const a)
-    (cond (eqb word 3) (Neg a)
-    (cond (eqb word 4) (Rot a (amountFrom b))
-    (cond (eqb word 5) (Add a b)
-    (cond (eqb word 6) (Mul a b)
-    (cond (eqb word 7) (Out a)
-    (cond (eqb word 8) (Enc a b c)
-    (cond (eqb word 9) (Rs a b)
-    (cond (eqb word 10) (Ms a b)
-    (cond (eqb word 11) (Us a b) Free))))))))))
+lineFrom n a b c = lineWith (wordFrom n) a b c
 
 -- the line that a record holds
 unfoldable pub lineOf : List ℕ → Line

@@ -1,14 +1,86 @@
 // What the code of several crates asks of a line and of a table: which values a line names, and the record that holds a line.
+use model::Best;
+use model::Kind;
 use model::Line;
+use model::Word;
 ghost use mathlib.Core.Path.{_≡_};
 ghost use Prim.Native.Nat.{_≤_, _<_};
 ghost use lib.ListN.{length, getD};
 ghost use Rattle.model.specs.declared.Line.the-variants.{Free};
 ghost use Rattle.tables.specs.Operands.{firstOperand, secondOperand, withOperands};
-ghost use Rattle.tables.specs.Records.{amountFrom, levelOf, lineFrom, lineOf, linesOf};
+ghost use Rattle.model.specs.Words.{entry};
+ghost use Rattle.model.specs.Files.{kindAt};
+ghost use Rattle.tables.specs.Records.{amountFrom, levelOf, wordNumber, wordFrom, lineFrom, lineOf, linesOf, linesHeld};
+
+// What the plan knows of a circuit line, as one entry of an array.
+pub struct BestEntry {
+    pub best: Best,
+}
+
+// ---- words
+// The number of a word in a record: the words in document 01's order from 1; 0 is no word's.
+pub fn number_of(word: Word) -> u16
+    ensures { λ r. ⌜ r ≡ wordNumber word ⌝ }
+{
+    match word {
+        Word::In => 1,
+        Word::Const => 2,
+        Word::Neg => 3,
+        Word::Rot => 4,
+        Word::Add => 5,
+        Word::Mul => 6,
+        Word::Out => 7,
+        Word::Enc => 8,
+        Word::Rs => 9,
+        Word::Ms => 10,
+        Word::Us => 11,
+        Word::NoWord => 0,
+    }
+}
+
+// The word with this number.
+fn word_from(number: u16) -> Word
+    ensures { λ r. ⌜ r ≡ wordFrom number ⌝ }
+{
+    match number {
+        1 => Word::In,
+        2 => Word::Const,
+        3 => Word::Neg,
+        4 => Word::Rot,
+        5 => Word::Add,
+        6 => Word::Mul,
+        7 => Word::Out,
+        8 => Word::Enc,
+        9 => Word::Rs,
+        10 => Word::Ms,
+        11 => Word::Us,
+        _ => Word::NoWord,
+    }
+}
+
+// What a line with this word can be used as.
+fn kind_of(word: Word) -> Kind
+    ensures { λ r. ⌜ r ≡ entry word .kind ⌝ }
+{
+    match word {
+        Word::In => Kind::Ciphertext,
+        Word::Const => Kind::Constant,
+        Word::Neg => Kind::Ciphertext,
+        Word::Rot => Kind::Ciphertext,
+        Word::Add => Kind::Ciphertext,
+        Word::Mul => Kind::Ciphertext,
+        Word::Out => Kind::Nothing,
+        Word::Enc => Kind::Encoded,
+        Word::Rs => Kind::Ciphertext,
+        Word::Ms => Kind::Ciphertext,
+        Word::Us => Kind::Ciphertext,
+        Word::NoWord => Kind::Nothing,
+    }
+}
 
 // ---- records
-fn shifted(amount: i16) -> u16
+// A rotation's amount as its record holds it.
+pub fn shifted(amount: i16) -> u16
     ensures { λ r. ⌜ amountFrom r ≡ amount ⌝ }
 {
     ((amount as i32) + 32768) as u16
@@ -45,27 +117,27 @@ pub fn record_of(line: Line) -> [u16; 4]
 }
 
 // The line with this word's number and these fields.
-fn line_from(word: u16, a: u16, b: u16, c: u16) -> Line
-    ensures { λ r. ⌜ r ≡ lineFrom word a b c ⌝ }
+fn line_from(number: u16, a: u16, b: u16, c: u16) -> Line
+    ensures { λ r. ⌜ r ≡ lineFrom number a b c ⌝ }
     ensures level { λ r. ⌜ levelOf r ≤ 65535 ⌝ }
 {
-    match word {
-        1 => Line::In,
-        2 => Line::Const(a),
-        3 => Line::Neg(a),
-        4 => Line::Rot(a, amount_from(b)),
-        5 => Line::Add(a, b),
-        6 => Line::Mul(a, b),
-        7 => Line::Out(a),
-        8 => Line::Enc {
+    match word_from(number) {
+        Word::In => Line::In,
+        Word::Const => Line::Const(a),
+        Word::Neg => Line::Neg(a),
+        Word::Rot => Line::Rot(a, amount_from(b)),
+        Word::Add => Line::Add(a, b),
+        Word::Mul => Line::Mul(a, b),
+        Word::Out => Line::Out(a),
+        Word::Enc => Line::Enc {
             of: a,
             scale: b,
             level: c as u32,
         },
-        9 => Line::Rs(a, b),
-        10 => Line::Ms(a, b),
-        11 => Line::Us(a, b),
-        _ => Line::Free,
+        Word::Rs => Line::Rs(a, b),
+        Word::Ms => Line::Ms(a, b),
+        Word::Us => Line::Us(a, b),
+        Word::NoWord => Line::Free,
     }
 }
 
@@ -77,6 +149,19 @@ pub fn line_at(records: &[[u16; 4]], i: usize) -> Line
 {
     let record = records[i];
     line_from(record[0], record[1], record[2], record[3])
+}
+
+// The kind of value a among the lines of the first `count` records; past them there is nothing.
+pub fn kind_at(records: &[[u16; 4]], count: usize, a: u64) -> Kind
+    requires { ⌜ count ≤ length (now records) ⌝ }
+    ensures { λ r. ⌜ r ≡ kindAt (linesHeld (now (records .entry)) count) a ⌝ }
+{
+    if (count as u64) <= a {
+        return Kind::Nothing;
+    }
+    let at = a as usize;
+    let record = records[at];
+    kind_of(word_from(record[0]))
 }
 
 // ---- operands

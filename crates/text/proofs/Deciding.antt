@@ -1,187 +1,98 @@
 -- The first 3,882 bytes of a text decide its reading as a circuit. Assumes nothing.
--- A line that begins within the first 3,854 bytes ends within 3,882, or is refused for its form whatever follows.
-use Prim.Native.Nat.{ℕ, zero, suc, _+_, _*_, _-_, _<_, _≤_}
-use native.Mathlib.Decide.{decLe, decLt}
+-- Good lines among them take at most 3,854, so 28 bytes are left, or more: too many for a line of the form, whatever follows.
+use Prim.Native.Nat.{_*_, _≤_}
+use native.Mathlib.Decide.{decLe}
 use native.Mathlib.Omega.{arith}
-use mathlib.Core.Path.{_≡_, refl, sym, ap, _∙_}
-use mathlib.Core.Bool.{Bool, true, false, cond, _&&_}
-use mathlib.Core.List.{List, [], _∷_, _++_}
-use borrow.Author.Tests.{lt-ltb, le-ltb, lt-leb}
-use lib.Dec.{leb}
-use lib.ListN.{length, take, drop}
+use mathlib.Core.Path.{_≡_, refl, sym, ap, _∙_, subst}
+use mathlib.Core.List.{List, [], _∷_, _++_, map}
+use lib.ListN.{length, take, drop, length-append, take-append-drop}
 use lib.Seq.{take-all, length-take-le}
-use Rattle.fields.specs.Pieces.{Bytes, lineFeed, before, split, join}
-use Rattle.fields.proofs.PieceLaws.{before-within, split-some, split-cut, split-last, join-split}
-use Rattle.fields.proofs.CutLaws.{take-cut, take-one}
+use Rattle.fields.specs.Pieces.{Bytes}
+use Rattle.rows.specs.Lines.{Lines, lines, linesOf, textOf}
+use Rattle.rows.specs.Rows.{placeOf, Judgement, at, onward, refused, rowsFrom, ended, readLines}
+use Rattle.rows.proofs.LengthLaws.{text-length}
+use Rattle.rows.proofs.LineLaws.{bytesBefore, before-first, before-rest, wholeText, text-lines}
+use Rattle.rows.proofs.RowLaws.{RowsFormed, no-row, row, afterRows, first-decide, rows-read-written}
 use Rattle.model.specs.declared.Grammar.the-variants.{Circuit}
 use Rattle.model.specs.declared.Header.{Header}
 use Rattle.model.specs.declared.Line.{Line}
-use Rattle.model.specs.Files.{placeOf}
-use Rattle.model.proofs.Lists.{length-snoc}
-use Rattle.text.specs.declared.LineRead.{LineRead}
-use Rattle.text.specs.declared.LineRead.the-variants as Line·Read
-use Rattle.text.specs.declared.HeaderRead.{HeaderRead}
-use Rattle.text.specs.declared.HeaderRead.the-variants as Header·Read
-use Rattle.text.specs.Lines.{readLine}
-use Rattle.text.specs.Files.{Reading, refused, keptCount, beginsKept, tooMany, onward, readLines, readHeader, afterHeader, readPieces, readText, circuitContext}
-use Rattle.text.proofs.LineLaws.{read-written}
-use Rattle.text.proofs.HeaderLaws.{header-read-written}
-use Rattle.text.proofs.FileLaws.{kept-most, closed, headed}
-use Rattle.text.proofs.Lengths.{long-line, good-length, first-length, header-length, long-header}
+use Rattle.model.proofs.Tests.{HeaderFacts}
+use Rattle.text.specs.Files.{lineForm, circuitContext, readText}
+use Rattle.text.proofs.FileLaws.{line-tests, has-room, lawful, rows-are, header-read-written}
+use Rattle.text.proofs.Lengths.{circuits, refusedWith, unclosed-number, long-line, good-length, first-length, header-length, long-header}
 
--- ---- too many lines: in a circuit their number alone says so
-few : (done : List Line) (p : Bytes) → length done < 256 → tooMany circuitContext done p ≡ false
-few done p h =
-    ap (λ (b : Bool). cond b (beginsKept p && leb (circuitContext .kept) (keptCount done)) true) (lt-ltb (length done) (circuitContext .limit) (omega arith))
-    ∙ ap (λ (b : Bool). beginsKept p && b) (lt-leb (circuitContext .kept) (keptCount done) (let most = kept-most done in omega arith)) ∙ neither (beginsKept p)
-  where
-    neither : (b : Bool) → b && false ≡ false
-    neither true = refl
-    neither false = refl
+-- ---- how many bytes good lines take, with their line feeds
+module _ (h : Header) (facts : HeaderFacts h) where
+  lines-total : {done xs : List Line} → RowsFormed circuits h done xs → length (textOf (map (lineForm .text) xs)) ≤ 15 * length xs
+  unfolding textOf
+  lines-total no-row = omega arith
+  lines-total {done} (row {x = x} {xs = xs} n more) =
+      let few = has-room circuitContext done (lineForm .text x) (n .room) .few in
+      let most = good-length h facts done (omega arith) x (line-tests Circuit h done x (n .passes)) in
+      let rest = lines-total more in
+      omega (arith, text-length (lineForm .text x) (map (lineForm .text) xs))
 
-many : (done : List Line) (p : Bytes) → 256 ≤ length done → tooMany circuitContext done p ≡ true
-many done p h =
-    ap (λ (b : Bool). cond b (beginsKept p && leb (circuitContext .kept) (keptCount done)) true) (le-ltb (length done) (circuitContext .limit) (omega arith))
+  all-total : {xs : List Line} → RowsFormed circuits h [] xs → length xs ≤ 256 → length (textOf (map (lineForm .text) xs)) ≤ 3837
+  unfolding textOf
+  all-total no-row few = omega arith
+  all-total (row {x = x} {xs = xs} n more) few =
+      let most = first-length h facts x (line-tests Circuit h [] x (n .passes)) in
+      let rest = lines-total more in
+      omega (arith, text-length (lineForm .text x) (map (lineForm .text) xs))
 
-module _ (h : Header) where
-  abbrev rest : Bytes → List Line → Reading
-  rest r done = readLines circuitContext h (split lineFeed r) done
+-- ---- 28 bytes or more after good lines are refused, closed or not
+module _ (h : Header) (rows : List Line) where
+  unclosed : (p : Bytes) → 1 ≤ length p → ended circuits h rows p ≡ refused (refusedWith rows) (placeOf (length rows))
+  unfolding ended
+  unclosed [] some = absurd (omega arith)
+  unclosed (b ∷ bs) some = ap (λ n. refused n (placeOf (length rows))) (unclosed-number rows (b ∷ bs))
 
-  abbrev after : Bytes → List Bytes → List Line → Reading
-  after p ps done = onward (readLine circuitContext h done p) (λ x. readLines circuitContext h ps (done ++ (x ∷ [])))
+  rest-decides : (rest : Bytes) (more : Lines) → 28 ≤ length rest → afterRows circuits h rows (bytesBefore rest more) ≡ ended circuits h rows rest
+  unfolding rowsFrom
+  rest-decides rest (lines [] u) long =
+      let all = length-append rest u in
+      ap (afterRows circuits h rows) (before-rest rest u) ∙ unclosed (rest ++ u) (omega arith) ∙ sym (unclosed rest (omega arith))
+  rest-decides rest (lines (q ∷ qs) u) long =
+      let all = length-append rest q in
+      ap (afterRows circuits h rows) (before-first rest q qs u)
+      ∙ ap (λ (j : Judgement Line). onward (at (placeOf (length rows)) j (λ x. rowsFrom circuits h (rows ++ (x ∷ [])) qs)) (λ d. ended circuits h d u))
+      (long-line h rows (rest ++ q) (omega arith))
+      ∙ sym (unclosed rest (omega arith))
 
-  -- ---- the next line, as its line feed says
-  next : (p : Bytes) (ps : List Bytes) (done : List Line) → 1 ≤ length ps → length done < 256 → readLines circuitContext h (p ∷ ps) done ≡ after p ps done
-  next p ps done some less =
-      closed circuitContext h p ps done some ∙ ap (λ (b : Bool). cond b (refused 3 (placeOf (length done))) (after p ps done)) (few done p less)
-
-  unclosed : (p : Bytes) (done : List Line) → 1 ≤ length p → length done < 256 → readLines circuitContext h (p ∷ []) done ≡ refused 1 (placeOf (length done))
-  unfolding readLines
-  unclosed [] done some less = absurd (omega arith)
-  unclosed (b ∷ bs) done some less = ap (λ (t : Bool). cond t (refused 3 (placeOf (length done))) (refused 1 (placeOf (length done)))) (few done (b ∷ bs) less)
-
-  full-pieces : (ps : List Bytes) (done : List Line) → 1 ≤ length (join lineFeed ps) → 256 ≤ length done → readLines circuitContext h ps done ≡ refused 3 (placeOf (length done))
-  unfolding readLines join
-  full-pieces [] done some more = absurd (omega arith)
-  full-pieces ([] ∷ []) done some more = absurd (omega arith)
-  full-pieces ((b ∷ bs) ∷ []) done some more = ap (λ (t : Bool). cond t (refused 3 (placeOf (length done))) (refused 1 (placeOf (length done)))) (many done (b ∷ bs) more)
-  full-pieces (p ∷ q ∷ ps) done some more = ap (λ (t : Bool). cond t (refused 3 (placeOf (length done))) (after p (q ∷ ps) done)) (many done p more)
-
-  -- a line of 28 bytes or more
-  too-long : (r : Bytes) (done : List Line) → 28 ≤ before lineFeed r → length done < 256 → rest r done ≡ refused 1 (placeOf (length done))
-  too-long r done long less =
-      elim (decLt (before lineFeed r) (length r)) [
-        | yes c ↦
-            let p = take (before lineFeed r) r in
-            let size = length-take-le (before lineFeed r) r (omega arith) in
-            ap (λ (ps : List Bytes). readLines circuitContext h ps done) (split-cut lineFeed r c)
-            ∙ next p (split lineFeed (drop (suc (before lineFeed r)) r)) done (split-some lineFeed (drop (suc (before lineFeed r)) r)) less
-            ∙ ap (λ (l : LineRead). onward l (λ x. readLines circuitContext h (split lineFeed (drop (suc (before lineFeed r)) r)) (done ++ (x ∷ [])))) (long-line h done p (omega arith))
-        | no c ↦
-            let within = before-within lineFeed r in
-            ap (λ (ps : List Bytes). readLines circuitContext h ps done) (split-last lineFeed r (omega arith)) ∙ unclosed r done (omega arith) less
-      ]
-
-  -- ---- one line: if what follows a good line is decided, so is what begins with it
-  abbrev Onward : Bytes → ℕ → List Line → Type 0
-  Onward r m done = (x : Line) → readLine circuitContext h done (take (before lineFeed r) r) ≡ Line·Read.Good x → length (take (before lineFeed r) r) ≡ before lineFeed r
-      → rest (drop (suc (before lineFeed r)) r) (done ++ (x ∷ [])) ≡ rest (take (m - suc (before lineFeed r)) (drop (suc (before lineFeed r)) r)) (done ++ (x ∷ []))
-
-  step : (r : Bytes) (m : ℕ) (done : List Line) → 28 ≤ m → length done < 256 → Onward r m done → rest r done ≡ rest (take m r) done
-  step r m done room less more =
-      elim (decLe (length r) m) [
-        | yes all ↦ ap (λ (s : Bytes). rest s done) (sym (take-all m r all))
-        | no long ↦ elim (decLt (before lineFeed r) m) [
-          | yes c ↦
-              let p = take (before lineFeed r) r in
-              let left = drop (suc (before lineFeed r)) r in
-              let size = length-take-le (before lineFeed r) r (omega arith) in
-              ap (λ (ps : List Bytes). readLines circuitContext h ps done) (split-cut lineFeed r (omega arith))
-              ∙ next p (split lineFeed left) done (split-some lineFeed left) less
-              ∙ same p (split lineFeed left) (split lineFeed (take (m - suc (before lineFeed r)) left)) (readLine circuitContext h done p) (λ x e. more x e size) refl
-              ∙ sym (next p (split lineFeed (take (m - suc (before lineFeed r)) left)) done (split-some lineFeed (take (m - suc (before lineFeed r)) left)) less)
-              ∙ ap (λ (ps : List Bytes). readLines circuitContext h ps done) (sym (take-cut lineFeed r m c (omega arith)))
-          | no c ↦
-              let size = length-take-le m r (omega arith) in
-              too-long r done (omega arith) less
-              ∙ sym (ap (λ (ps : List Bytes). readLines circuitContext h ps done) (take-one lineFeed r m (omega arith)) ∙ unclosed (take m r) done (omega arith) less)
-        ]
-      ]
-    where
-      same : (p : Bytes) (ps qs : List Bytes) (l : LineRead)
-          → ((x : Line) → readLine circuitContext h done p ≡ Line·Read.Good x → readLines circuitContext h ps (done ++ (x ∷ [])) ≡ readLines circuitContext h qs (done ++ (x ∷ [])))
-          → readLine circuitContext h done p ≡ l → after p ps done ≡ after p qs done
-      same p ps qs (Line·Read.Bad n place) k e =
-          ap (λ (l : LineRead). onward l (λ x. readLines circuitContext h ps (done ++ (x ∷ [])))) e ∙ sym (ap (λ (l : LineRead). onward l (λ x. readLines circuitContext h qs (done ++ (x ∷ [])))) e)
-      same p ps qs (Line·Read.Good x) k e =
-          ap (λ (l : LineRead). onward l (λ x. readLines circuitContext h ps (done ++ (x ∷ [])))) e ∙ k x e
-          ∙ sym (ap (λ (l : LineRead). onward l (λ x. readLines circuitContext h qs (done ++ (x ∷ [])))) e)
-
-  -- ---- all lines: with k lines still allowed, 15 · k + 28 bytes decide
-  lines-decided : (k : ℕ) (r : Bytes) (m : ℕ) (done : List Line) → length done + k ≡ 256 → 15 * k + 28 ≤ m → rest r done ≡ rest (take m r) done
-  lines-decided zero r m done count room = ended r m done (omega arith) (omega arith)
-    where
-      ended : (r : Bytes) (m : ℕ) (done : List Line) → 256 ≤ length done → 1 ≤ m → rest r done ≡ rest (take m r) done
-      ended [] zero done more some = refl
-      ended [] (suc m) done more some = refl
-      ended (b ∷ bs) zero done more some = absurd (omega arith)
-      ended (b ∷ bs) (suc m) done more some = over (b ∷ bs) done (omega arith) more ∙ sym (over (b ∷ take m bs) done (omega arith) more)
-        where
-          over : (s : Bytes) (done : List Line) → 1 ≤ length s → 256 ≤ length done → rest s done ≡ refused 3 (placeOf (length done))
-          over s done some more = full-pieces (split lineFeed s) done (let e = ap length (join-split lineFeed s) in omega arith) more
-  lines-decided (suc k) r m done count room =
-      step r m done (omega arith) (omega arith) (λ x e size.
-      let b = read-written circuitContext h done (take (before lineFeed r) r) e in
-      let most = good-length h done (omega arith) x (b .facts) in
-      let whole = ap length (b .written) in
-      let longer = length-snoc done x in
-      lines-decided k (drop (suc (before lineFeed r)) r) (m - suc (before lineFeed r)) (done ++ (x ∷ [])) (omega arith) (omega arith))
-
-  -- the first line is shorter
-  first-decided : (r : Bytes) (m : ℕ) → 3865 ≤ m → rest r [] ≡ rest (take m r) []
-  first-decided r m room =
-      step r m [] (omega arith) (omega arith) (λ x e size.
-      let b = read-written circuitContext h [] (take (before lineFeed r) r) e in
-      let most = first-length h x (b .facts) in
-      let whole = ap length (b .written) in
-      lines-decided 255 (drop (suc (before lineFeed r)) r) (m - suc (before lineFeed r)) (x ∷ []) (omega arith) (omega arith))
+-- a header line of 44 bytes or more is refused, closed or not
+header-decides : (rest : Bytes) (more : Lines) → 44 ≤ length rest → readLines circuits (bytesBefore rest more) ≡ refused 1 1
+unfolding readLines
+header-decides rest (lines [] u) long = ap (readLines circuits) (before-rest rest u)
+header-decides rest (lines (q ∷ qs) u) long =
+    let all = length-append rest q in
+    ap (readLines circuits) (before-first rest q qs u)
+    ∙ ap (λ (j : Judgement Header). at 1 j (λ h. afterRows circuits h [] (lines qs u))) (long-header (rest ++ q) (omega arith))
 
 -- ---- the whole text
-abbrev whole : Bytes → Reading
-whole s = readPieces circuitContext (split lineFeed s)
-
-long-first : (s : Bytes) → 44 ≤ before lineFeed s → whole s ≡ refused 1 1
-long-first s long =
-    elim (decLt (before lineFeed s) (length s)) [
-      | yes c ↦
-          let p = take (before lineFeed s) s in
-          let size = length-take-le (before lineFeed s) s (omega arith) in
-          let left = drop (suc (before lineFeed s)) s in
-          ap (readPieces circuitContext) (split-cut lineFeed s c) ∙ headed circuitContext p (split lineFeed left) (split-some lineFeed left)
-          ∙ ap (λ (r : HeaderRead). afterHeader r (λ h. readLines circuitContext h (split lineFeed left) [])) (long-header p (omega arith))
-      | no c ↦ let within = before-within lineFeed s in ap (readPieces circuitContext) (split-last lineFeed s (omega arith))
-    ]
+decide : (s t : Bytes) → length s ≡ 3882 → (l : Lines) → linesOf s ≡ l → readText circuitContext (s ++ t) ≡ readText circuitContext s
+unfolding textOf
+decide s t long (lines qs rest) e =
+    let whole : length (textOf qs ++ rest) ≡ 3882 = ap (λ (l : Lines). length (wholeText l)) (sym e) ∙ ap length (text-lines s) ∙ long in
+    let parts = length-append (textOf qs) rest in
+    first-decide circuits s t e
+    (λ none. let nothing = ap (λ (ps : List Bytes). length (textOf ps)) none in header-decides rest (linesOf t) (omega arith))
+    (λ p ps h rows some q r.
+    let head = header-read-written circuitContext p q in
+    let back = rows-read-written circuits (lawful circuitContext) h [] ps r in
+    let formed = subst (RowsFormed circuits h []) (back .are) (back .formed) in
+    let few = rows-are circuitContext formed (omega arith) (omega arith) .few in
+    let most = all-total h (head .facts) formed (omega arith) in
+    let written = ap (λ (xs : List Line). length (textOf (map (lineForm .text) xs))) (sym (back .are)) ∙ ap (λ (ps : List Bytes). length (textOf ps)) (back .written) in
+    let first = header-length h (head .facts) in
+    let header = ap length (head .written) in
+    let all = ap (λ (ps : List Bytes). length (textOf ps)) some in
+    let line = text-length p ps in
+    rest-decides h rows rest (linesOf t) (omega arith))
 
 pub decided : (s : Bytes) → readText circuitContext s ≡ readText circuitContext (take 3882 s)
-unfolding readText
 decided s =
     elim (decLe (length s) 3882) [
-      | yes all ↦ ap whole (sym (take-all 3882 s all))
-      | no long ↦ elim (decLt (before lineFeed s) 3882) [
-        | yes c ↦
-            let p = take (before lineFeed s) s in
-            let left = drop (suc (before lineFeed s)) s in
-            let size = length-take-le (before lineFeed s) s (omega arith) in
-            ap (readPieces circuitContext) (split-cut lineFeed s (omega arith)) ∙ headed circuitContext p (split lineFeed left) (split-some lineFeed left)
-            ∙ same p left (3882 - suc (before lineFeed s)) (readHeader Circuit p) refl (λ h e. let b = header-read-written Circuit p e in let most = header-length h (b .facts) in let e′ = ap length (b .written) in omega arith)
-            ∙ sym (headed circuitContext p (split lineFeed (take (3882 - suc (before lineFeed s)) left)) (split-some lineFeed (take (3882 - suc (before lineFeed s)) left)))
-            ∙ ap (readPieces circuitContext) (sym (take-cut lineFeed s 3882 c (omega arith)))
-        | no c ↦ long-first s (omega arith) ∙ sym (ap (readPieces circuitContext) (take-one lineFeed s 3882 (omega arith)))
-      ]
+      | yes all ↦ ap (readText circuitContext) (sym (take-all 3882 s all))
+      | no long ↦ ap (readText circuitContext) (sym (take-append-drop 3882 s))
+          ∙ decide (take 3882 s) (drop 3882 s) (length-take-le 3882 s (omega arith)) (linesOf (take 3882 s)) refl
     ]
-  where
-    same : (p left : Bytes) (m : ℕ) (r : HeaderRead) → readHeader Circuit p ≡ r → ((h : Header) → readHeader Circuit p ≡ Header·Read.Head h → 3865 ≤ m)
-        → afterHeader (readHeader Circuit p) (λ h. rest h left []) ≡ afterHeader (readHeader Circuit p) (λ h. rest h (take m left) [])
-    same p left m (Header·Read.Bad n place) e k = ap (λ (r : HeaderRead). afterHeader r (λ h. rest h left [])) e ∙ sym (ap (λ (r : HeaderRead). afterHeader r (λ h. rest h (take m left) [])) e)
-    same p left m (Header·Read.Head h) e k =
-        ap (λ (r : HeaderRead). afterHeader r (λ h. rest h left [])) e ∙ first-decided h left m (k h e) ∙ sym (ap (λ (r : HeaderRead). afterHeader r (λ h. rest h (take m left) [])) e)

@@ -1,10 +1,7 @@
 pub mod Statements
 pub mod Theorems
 pub mod WordLaws
-pub mod Forms
-pub mod Shapes
-pub mod LineLaws
-pub mod HeaderLaws
+pub mod FormLaws
 pub mod FileLaws
 pub mod Unique
 pub mod Tables

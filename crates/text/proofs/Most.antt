@@ -1,75 +1,43 @@
 -- A text has at most 72 bytes a line, whatever numbers its lines have. Assumes nothing.
-use Prim.Native.Nat.{ℕ, suc, _+_, _*_, _≤_}
+use Prim.Native.Nat.{ℕ, _+_, _*_, _≤_}
 use native.Mathlib.Omega.{arith}
-use mathlib.Core.List.{List, [], _∷_, _++_, map}
-use lib.IntN.{pos, negsuc}
-use lib.ListN.{length, length-append}
-use Rattle.fields.specs.Pieces.{Bytes, tab, lineFeed, join}
-use Rattle.fields.specs.Numbers.{decimal}
-use Rattle.fields.proofs.NumberLaws.{decimal-most}
+use mathlib.Core.Bool.{_&&_}
+use mathlib.Core.List.{List, [], _∷_, map}
+use lib.Dec.{leb, leb→le}
+use lib.IntN.{pos}
+use lib.ListN.{length, length-map}
+use Rattle.fields.specs.Pieces.{Bytes}
+use Rattle.fields.proofs.Each.{Each, none, one}
+use Rattle.rows.specs.Forms.{saidText}
+use Rattle.rows.specs.Lines.{textOf}
+use Rattle.rows.specs.Rows as Rows
+use Rattle.rows.proofs.FieldLaws.{fields-length}
+use Rattle.rows.proofs.LengthLaws as Lengths
+use Rattle.rows.proofs.LengthLaws.{said-most, text-length}
 use Rattle.model.specs.declared.Grammar.{Grammar}
 use Rattle.model.specs.declared.Grammar.the-variants.{Circuit, Schedule}
-use Rattle.model.specs.declared.Line as L
 use Rattle.model.specs.declared.Line.{Line}
-use Rattle.model.specs.declared.Word.{Word}
-use Rattle.model.specs.declared.Word.the-variants.{In, Const, Neg, Rot, Add, Mul, Out, Enc, Rs, Ms, Us, NoWord}
-use Rattle.model.specs.Words.{Given, natural, signed}
-use Rattle.model.specs.Files.{File, wordOf, given}
-use Rattle.text.specs.Words.{wordText, headerWord}
-use Rattle.text.specs.Write.{givenText, headerFieldsOf, fieldsText, lineText, linesText, fileText}
+use Rattle.model.specs.Scales.{headerNumbers}
+use Rattle.model.specs.Words.{entry}
+use Rattle.model.specs.Files.{File, wordOf, rowOf, said}
+use Rattle.model.proofs.Tests.{and-first, and-second}
+use Rattle.model.proofs.EveryWord.{every-word}
+use Rattle.text.specs.Files.{headerWord, headerForm, lineForm, fileText}
+use Rattle.text.proofs.WordLaws.{said-held}
 
--- ---- fields
-given-most : (x : Given) → length (givenText x) ≤ 21
-given-most (natural n) = omega (arith, decimal-most n)
-given-most (signed (pos n)) = omega (arith, decimal-most n)
-given-most (signed (negsuc n)) = omega (arith, decimal-most (suc n))
+-- ---- lines: a word has at most 5 bytes and 3 fields
+line-most : (x : Line) → length (lineForm .text x) ≤ 71
+line-most x =
+    let test = every-word (λ w. leb (length (entry w .bytes)) 5 && leb (length (entry w .fields)) 3) tt (wordOf x) in
+    let bytes = leb→le (length (rowOf x .bytes)) 5 (and-first (leb (length (rowOf x .bytes)) 5) (leb (length (rowOf x .fields)) 3) test) in
+    let fields = leb→le (length (rowOf x .fields)) 3 (and-second (leb (length (rowOf x .bytes)) 5) (leb (length (rowOf x .fields)) 3) test) in
+    let count = fields-length (said-held x) in
+    let most = said-most (rowOf x .bytes) (said x .numbers) in
+    omega arith
 
-fields-most : (word : Bytes) (xs : List Given) → length (fieldsText (word ∷ map givenText xs)) ≤ length word + 22 * length xs + 1
-unfolding fieldsText join
-fields-most word [] = simp length-append (omega arith)
-fields-most word (x ∷ xs) =
-    let more = fields-most (givenText x) xs in
-    let rest = length-append (join tab (givenText x ∷ map givenText xs)) (lineFeed ∷ []) in
-    let all = length-append (word ++ (tab ∷ join tab (givenText x ∷ map givenText xs))) (lineFeed ∷ []) in
-    let front = length-append word (tab ∷ join tab (givenText x ∷ map givenText xs)) in
-    omega (arith, given-most x)
-
--- ---- lines
-word-most : (w : Word) → length (wordText w) ≤ 5
-word-most In = omega arith
-word-most Const = omega arith
-word-most Neg = omega arith
-word-most Rot = omega arith
-word-most Add = omega arith
-word-most Mul = omega arith
-word-most Out = omega arith
-word-most Enc = omega arith
-word-most Rs = omega arith
-word-most Ms = omega arith
-word-most Us = omega arith
-word-most NoWord = omega arith
-
-given-few : (x : Line) → length (given x) ≤ 3
-given-few L.the-variants.In = omega arith
-given-few (L.the-variants.Const k) = omega arith
-given-few (L.the-variants.Neg a) = omega arith
-given-few (L.the-variants.Rot a t) = omega arith
-given-few (L.the-variants.Add a b) = omega arith
-given-few (L.the-variants.Mul a b) = omega arith
-given-few (L.the-variants.Out a) = omega arith
-given-few (L.the-variants.Enc a s e) = omega arith
-given-few (L.the-variants.Rs a c) = omega arith
-given-few (L.the-variants.Ms a c) = omega arith
-given-few (L.the-variants.Us a b) = omega arith
-given-few L.the-variants.Free = omega arith
-
-line-most : (x : Line) → length (lineText x) ≤ 72
-line-most x = omega (arith, fields-most (wordText (wordOf x)) (given x), word-most (wordOf x), given-few x)
-
-lines-most : (xs : List Line) → length (linesText xs) ≤ 72 * length xs
-unfolding linesText
-lines-most [] = omega arith
-lines-most (x ∷ xs) = let more = lines-most xs in let all = length-append (lineText x) (linesText xs) in omega (arith, line-most x)
+lines-most : (xs : List Line) → Each (λ p. length p ≤ 71) (map (lineForm .text) xs)
+lines-most [] = none
+lines-most (x ∷ xs) = one (line-most x) (lines-most xs)
 
 -- ---- the file
 header-most : (g : Grammar) → length (headerWord g) ≤ 8
@@ -77,13 +45,16 @@ header-most Circuit = omega arith
 header-most Schedule = omega arith
 
 pub text-most : (g : Grammar) (f : File) → length (fileText g f) ≤ 72 + 72 * length (f .lines) + 3
-unfolding fileText
+unfolding Rows.fileText
 text-most g f =
-    let h = f .header in
-    let numbers = fields-most (headerWord g) (natural (h .factor) ∷ natural (h .waterline) ∷ natural (h .top) ∷ []) in
-    let all = length-append (fieldsText (headerFieldsOf g h)) (linesText (f .lines)) in
-    omega (arith, header-most g, lines-most (f .lines))
+    let numbers = said-most (headerWord g) (headerNumbers (f .header)) in
+    let lines = Lengths.text-most 71 (lines-most (f .lines)) in
+    let count = length-map (f .lines) (lineForm .text) in
+    omega (arith, header-most g, text-length (headerForm g .text (f .header)) (map (lineForm .text) (f .lines)))
 
 -- the line with which the program refuses
-pub two-numbers-most : (word : Bytes) (a b : ℕ) → length (fieldsText (word ∷ decimal a ∷ decimal b ∷ [])) ≤ length word + 45
-two-numbers-most word a b = let most = fields-most word (natural a ∷ natural b ∷ []) in omega arith
+pub two-numbers-most : (word : Bytes) (a b : ℕ) → length (textOf (saidText word (pos a ∷ pos b ∷ []) ∷ [])) ≤ length word + 45
+unfolding textOf
+two-numbers-most word a b =
+    let most = said-most word (pos a ∷ pos b ∷ []) in
+    omega (arith, text-length (saidText word (pos a ∷ pos b ∷ [])) [])

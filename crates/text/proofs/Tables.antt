@@ -10,8 +10,8 @@ use Rattle.model.specs.declared.Grammar.{Grammar}
 use Rattle.model.specs.declared.Grammar.the-variants.{Circuit, Schedule}
 use Rattle.model.specs.declared.Line.{Line}
 use Rattle.model.specs.declared.Line.the-variants.{Free}
-use Rattle.model.specs.Files.{File, Table, limit, tableLines, TableFormed, wellFormed}
-use Rattle.text.specs.Files.{fileOf, tableOf}
+use Rattle.text.specs.Tables.{Table, tableLines, TableFormed, fileOf, tableOf}
+use Rattle.model.specs.Files.{File, limit, wellFormed}
 
 lines-held : (xs rest : List Line) → take (length xs) (xs ++ rest) ≡ xs
 lines-held [] rest = refl

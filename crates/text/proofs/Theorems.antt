@@ -7,10 +7,12 @@ use lib.Dec.{T, leb, leb→le, le→leb}
 use lib.ListN.{length}
 use Rattle.fields.specs.Pieces.{Bytes}
 use Rattle.model.specs.declared.Grammar.{Grammar}
-use Rattle.model.specs.Files.{Table, File, limit, tableLines, TableFormed}
+use Rattle.text.specs.Tables.{Table, tableLines, TableFormed, fileOf, tableOf, RestFree}
+use Rattle.model.specs.Files.{File, limit}
 use Rattle.model.proofs.Tests.{and-first, and-second, and-both}
 use Rattle.text.specs.declared.Context.{Context}
-use Rattle.text.specs.Files.{read, keptCount, readText, fileOf, tableOf, RestFree, circuitContext, scheduleContext, eraseContext}
+use Rattle.rows.specs.Rows.{read}
+use Rattle.text.specs.Files.{keptCount, readText, circuitContext, scheduleContext, eraseContext}
 use Rattle.text.proofs.Statements.Inverse as InverseStatement
 use Rattle.text.proofs.Statements.Inverse.{IsWritten, Inverse}
 use Rattle.text.proofs.Statements.Refusals as RefusalsStatement
@@ -24,8 +26,8 @@ use Rattle.text.proofs.Worked.{worked}
 
 -- the inverse for a reading that allows a grammar's lines, and of them few enough to keep
 module _ (c : Context) (Allowed : Table → Type 0) (limit-is : c .limit ≡ limit (c .grammar))
-    (kept-few : (t : Table) → TableFormed (c .grammar) t → Allowed t → keptCount (tableLines t) ≤ c .kept)
-    (few-allowed : (t : Table) → keptCount (tableLines t) ≤ c .kept → Allowed t) where
+    (kept-few : (t : Table) → TableFormed (c .grammar) t → Allowed t → keptCount (tableLines t) ≤ c .keptlimit)
+    (few-allowed : (t : Table) → keptCount (tableLines t) ≤ c .keptlimit → Allowed t) where
   abbrev g : Grammar
   g = c .grammar
 
@@ -36,19 +38,19 @@ module _ (c : Context) (Allowed : Table → Type 0) (limit-is : c .limit ≡ lim
       let few = leb→le (t .count) (limit g) (w .formed .few) in
       ap (readText c) (sym (w .text-is))
       ∙ file-written-read c (fileOf t) (omega arith) (w .formed .lines)
-      (and-both (leb (length (tableLines t)) (c .limit)) (leb (keptCount (tableLines t)) (c .kept)) (le→leb (length (tableLines t)) (c .limit) (omega arith))
-      (le→leb (keptCount (tableLines t)) (c .kept) (kept-few t (w .formed) (w .allowed))))
+      (and-both (leb (length (tableLines t)) (c .limit)) (leb (keptCount (tableLines t)) (c .keptlimit)) (le→leb (length (tableLines t)) (c .limit) (omega arith))
+      (le→leb (keptCount (tableLines t)) (c .keptlimit) (kept-few t (w .formed) (w .allowed))))
 
   pub read-written : (text : Bytes) (t : Table) → TableFormed g t → readText c text ≡ read (fileOf t) → IsWritten c Allowed text t
   read-written text t f e =
       let b = file-read-written c text e in
-      let kept = and-second (leb (length (tableLines t)) (c .limit)) (leb (keptCount (tableLines t)) (c .kept)) (b .few) in
-      record { formed = f; allowed = few-allowed t (leb→le (keptCount (tableLines t)) (c .kept) kept); text-is = b .written }
+      let kept = and-second (leb (length (tableLines t)) (c .limit)) (leb (keptCount (tableLines t)) (c .keptlimit)) (b .few) in
+      record { formed = f; allowed = few-allowed t (leb→le (keptCount (tableLines t)) (c .keptlimit) kept); text-is = b .written }
 
   pub table-read : (text : Bytes) (t : Table) → RestFree t → t .count ≤ 1792 → readText c text ≡ read (fileOf t) → TableFormed g t
   table-read text t free most e =
       let b = file-read-written c text e in
-      let few = leb→le (length (tableLines t)) (c .limit) (and-first (leb (length (tableLines t)) (c .limit)) (leb (keptCount (tableLines t)) (c .kept)) (b .few)) in
+      let few = leb→le (length (tableLines t)) (c .limit) (and-first (leb (length (tableLines t)) (c .limit)) (leb (keptCount (tableLines t)) (c .keptlimit)) (b .few)) in
       let count = count-length t (free .room) most in
       record { few = le→leb (t .count) (limit g) (omega arith); room = free .room; lines = b .formed; rest = free .rest }
 
@@ -56,7 +58,7 @@ module _ (c : Context) (Allowed : Table → Type 0) (limit-is : c .limit ≡ lim
   file-held : (text : Bytes) (f : File) → readText c text ≡ read f → TableFormed g (tableOf f)
   file-held text f e =
       let b = file-read-written c text e in
-      let few = leb→le (length (f .lines)) (c .limit) (and-first (leb (length (f .lines)) (c .limit)) (leb (keptCount (f .lines)) (c .kept)) (b .few)) in
+      let few = leb→le (length (f .lines)) (c .limit) (and-first (leb (length (f .lines)) (c .limit)) (leb (keptCount (f .lines)) (c .keptlimit)) (b .few)) in
       table-formed g f (b .formed) (omega arith)
 
   pub inverse : Inverse c Allowed
@@ -86,7 +88,8 @@ text-and-table =
     record {
       circuits = inverse circuitContext (λ t. Unit) refl (λ t f a. kept-within (circuitContext .grammar) t f) (λ t k. tt);
       schedules = inverse scheduleContext (λ t. Unit) refl (λ t f a. kept-within (scheduleContext .grammar) t f) (λ t k. tt);
-      erasing = inverse eraseContext (λ t. T (leb (keptCount (tableLines t)) 256)) refl (λ t f a. let few = leb→le (keptCount (tableLines t)) 256 a in omega arith) (λ t k. le→leb (keptCount (tableLines t)) 256 (omega arith));
+      erasing = inverse eraseContext (λ t. T (leb (keptCount (tableLines t)) 256)) refl
+          (λ t f a. let few = leb→le (keptCount (tableLines t)) 256 a in omega arith) (λ t k. le→leb (keptCount (tableLines t)) 256 (omega arith));
     }
 
 pub refusals : RefusalsStatement.Statement

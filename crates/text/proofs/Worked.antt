@@ -2,14 +2,14 @@
 use mathlib.Core.Path.{refl}
 use Rattle.fields.specs.Pieces.{split, join, sameBytes}
 use Rattle.fields.specs.Numbers.{digitsOf, numberOf, amountOf, decimalIn}
-use Rattle.text.specs.Words.{wordNamed}
-use Rattle.text.specs.Lines.{shapeOf, readLine}
-use Rattle.text.specs.Files.{readHeader, readLines, readText}
-use Rattle.text.specs.Write.{fieldsText, linesText}
+use Rattle.rows.specs.Fields.{readFields}
+use Rattle.rows.specs.Forms.{named}
+use Rattle.rows.specs.Lines.{linesOf, textOf}
+use Rattle.rows.specs.Rows.{readLine, rowsFrom, ended, readLines, readFile}
 use Rattle.text.proofs.Statements.WorkedCases.{Statement}
 
 pub worked : Statement
-unfolding split join sameBytes digitsOf numberOf amountOf decimalIn wordNamed shapeOf readLine readHeader readLines readText fieldsText linesText
+unfolding split join sameBytes digitsOf numberOf amountOf decimalIn readFields named linesOf textOf readLine rowsFrom ended readLines readFile
 worked =
     record {
       bytes-read = refl;
@@ -81,6 +81,10 @@ worked =
       first-line-told = refl;
       lines-256 = refl;
       lines-257 = refl;
+      lines-1792 = refl;
+      lines-1793 = refl;
+      erased-1792 = refl;
+      erased-1793 = refl;
       kept-257 = refl;
       kept-not-of-form = refl;
       kept-unclosed = refl;

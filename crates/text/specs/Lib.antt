@@ -1,5 +1,4 @@
 -- The text of document 01's files: what a text reads to, and what a file is written as. Lines and fields are spoken of, never positions.
-pub mod Words
-pub mod Lines
 pub mod Files
-pub mod Write
+-- apart from these, what code and proofs use
+pub mod Tables

@@ -1,7 +1,7 @@
 -- The fields of a line and of a header: what one field more adds to the text, what closes a line, and which fields each word has.
 -- Assumes nothing.
 use Prim.Native.Nat.{ℕ, _+_, _≤_}
-use mathlib.Core.List.{List, [], _∷_, _++_, append-assoc}
+use mathlib.Core.List.{[], _∷_, _++_, append-assoc}
 use mathlib.Core.Path.{_≡_, refl, ap}
 use native.Mathlib.Omega.{arith}
 use lib.IntN.{ℤ}
@@ -15,9 +15,10 @@ use Rattle.model.specs.declared.Grammar.the-variants.{Circuit, Schedule}
 use Rattle.model.specs.declared.Header.{Header}
 use Rattle.model.specs.declared.Line.{Line}
 use Rattle.model.specs.declared.Line.the-variants.{In, Rot, Free}
-use Rattle.model.specs.declared.Word as W
-use Rattle.text.specs.Words.{wordText, headerWord}
-use Rattle.text.specs.Write.{fieldsOf, headerFieldsOf, fieldsText}
+use Rattle.model.specs.declared.Word as Words
+use Rattle.rows.specs.Lines.{textOf}
+use Rattle.model.specs.Words.{entry}
+use Rattle.text.specs.Files.{headerWord, headerForm, lineForm}
 use Rattle.writer.specs.Put.{Counted}
 use Rattle.writer.proofs.Puts.{GoesOn, goes-on}
 use Rattle.writer.proofs.Signs.{held}
@@ -59,36 +60,36 @@ one-counted w a q h c =
     record { counted = omega (arith, ap length (one-more w a), length-append w (tab ∷ a)); bounded = omega (arith, c .bounded) }
 
 -- ---- the line feed
-pub line-end : (fields : List Bytes) → fieldsText fields ≡ join tab fields ++ (lineFeed ∷ [])
-unfolding fieldsText
-line-end fields = refl
+pub line-end : (p : Bytes) → textOf (p ∷ []) ≡ p ++ (lineFeed ∷ [])
+unfolding textOf
+line-end p = refl
 
-pub line-goes-on : (fields : List Bytes) → GoesOn (join tab fields) (fieldsText fields)
-line-goes-on fields = goes-on (join tab fields) lineFeed [] (fieldsText fields) (line-end fields)
+pub line-goes-on : (p : Bytes) → GoesOn p (textOf (p ∷ []))
+line-goes-on p = goes-on p lineFeed [] (textOf (p ∷ [])) (line-end p)
 
 pub ruleset line-texts = (line-end, line-goes-on)
 
 -- ---- the fields of a line by its word. `fields-are` serves each word whose fields the code hands on as they are.
-pub fields-are : (l m : Line) → l ≡ m → join tab (fieldsOf l) ≡ join tab (fieldsOf m)
+pub fields-are : (l m : Line) → l ≡ m → lineForm .text l ≡ lineForm .text m
 fields-are l m e = rw e
 
-pub in-fields : (l : Line) → l ≡ In → join tab (fieldsOf l) ≡ wordText W.the-variants.In
+pub in-fields : (l : Line) → l ≡ In → lineForm .text l ≡ entry Words.the-variants.In .bytes
 unfolding join
 in-fields l e = rw e
 
 pub rot-fields :
     (l : Line) (a : ℕ) (z : ℤ) → l ≡ Rot a z → SFits w16 z →
-    join tab (fieldsOf l) ≡ join tab (wordText W.the-variants.Rot ∷ decimal a ∷ amountText (held z) ∷ [])
+    lineForm .text l ≡ join tab (entry Words.the-variants.Rot .bytes ∷ decimal a ∷ amountText (held z) ∷ [])
 rot-fields l a z e h = rw (e, ← amount-held z h)
 
-pub free-fields : (l : Line) → l ≡ Free → join tab (fieldsOf l) ≡ []
+pub free-fields : (l : Line) → l ≡ Free → lineForm .text l ≡ []
 unfolding join
 free-fields l e = rw e
 
-pub in-counted : (l : Line) → l ≡ In → Counted (join tab (fieldsOf l)) 71 2
+pub in-counted : (l : Line) → l ≡ In → Counted (lineForm .text l) 71 2
 in-counted l e = rw (in-fields l e) (record { counted = refl; bounded = omega arith })
 
-pub free-counted : (l : Line) → l ≡ Free → Counted (join tab (fieldsOf l)) 71 0
+pub free-counted : (l : Line) → l ≡ Free → Counted (lineForm .text l) 71 0
 free-counted l e = rw (free-fields l e) (record { counted = refl; bounded = omega arith })
 
 pub ruleset line-fields = (fields-are, in-fields, rot-fields, free-fields, in-counted, free-counted)
@@ -97,10 +98,10 @@ pub ruleset line-fields = (fields-are, in-fields, rot-fields, free-fields, in-co
 abbrev numbersAfter : Bytes → Header → Bytes
 numbersAfter word h = join tab (word ∷ decimal (h .factor) ∷ decimal (h .waterline) ∷ decimal (h .top) ∷ [])
 
-pub circuit-fields : (g : Grammar) (h : Header) → g ≡ Circuit → join tab (headerFieldsOf g h) ≡ numbersAfter (headerWord Circuit) h
+pub circuit-fields : (g : Grammar) (h : Header) → g ≡ Circuit → headerForm g .text h ≡ numbersAfter (headerWord Circuit) h
 circuit-fields g h e = rw e
 
-pub schedule-fields : (g : Grammar) (h : Header) → g ≡ Schedule → join tab (headerFieldsOf g h) ≡ numbersAfter (headerWord Schedule) h
+pub schedule-fields : (g : Grammar) (h : Header) → g ≡ Schedule → headerForm g .text h ≡ numbersAfter (headerWord Schedule) h
 schedule-fields g h e = rw e
 
 pub ruleset header-fields = (circuit-fields, schedule-fields)

@@ -1,19 +1,21 @@
 -- A table's lines one after another, and a whole file: its length and its text after the header and the first i lines. Assumes nothing.
 use Prim.Native.Nat.{ℕ, _+_, _*_, _≤_, _<_}
-use mathlib.Core.List.{List, [], _∷_, _++_, append-assoc, append-nil}
+use mathlib.Core.List.{List, [], _∷_, _++_, map, append-assoc}
 use mathlib.Core.Path.{_≡_, refl, sym, ap, _∙_}
 use native.Mathlib.Nat.{zero-add}
 use native.Mathlib.Numerals.{add-one}
 use native.Mathlib.Omega.{arith}
 use lib.ListN.{length, getD, take, drop, length-append, length-map, take-append-drop}
 use lib.Seq.{take-suc, take-take}
-use Rattle.fields.specs.Pieces.{Bytes}
+use Rattle.fields.specs.Pieces.{Bytes, lineFeed}
 use Rattle.model.specs.declared.Grammar.{Grammar}
 use Rattle.model.specs.declared.Line.{Line}
 use Rattle.model.specs.declared.Header.{Header}
 use Rattle.model.specs.declared.Line.the-variants.{Free}
-use Rattle.text.specs.Write.{headerFieldsOf, fieldsText, lineText, linesText, fileText}
-use Rattle.text.specs.Files.{fileOf}
+use Rattle.rows.specs.Lines.{textOf}
+use Rattle.rows.specs.Rows as Rows
+use Rattle.text.specs.Files.{headerForm, lineForm, fileText}
+use Rattle.text.specs.Tables.{fileOf}
 use Rattle.tables.specs.Records.{lineOf, linesOf, held}
 use Rattle.writer.specs.Put.{Put, Written, Counted}
 use Rattle.writer.proofs.Puts.{put-both, put-nothing}
@@ -22,19 +24,21 @@ use Rattle.writer.proofs.Puts.{put-both, put-nothing}
 abbrev lineAt : List (List ℕ) → ℕ → Line
 lineAt records i = getD (linesOf records) i Free
 
+abbrev lineText : Line → Bytes
+lineText x = textOf (lineForm .text x ∷ [])
+
+abbrev linesText : List Line → Bytes
+linesText xs = textOf (map (lineForm .text) xs)
+
 abbrev textTo : List (List ℕ) → ℕ → Bytes
 textTo records i = linesText (take i (linesOf records))
 
 no-text : linesText [] ≡ []
-unfolding linesText
+unfolding textOf
 no-text = refl
 
-one-text : (x : Line) → linesText (x ∷ []) ≡ lineText x
-unfolding linesText
-one-text x = append-nil (lineText x)
-
 both-texts : (xs ys : List Line) → linesText (xs ++ ys) ≡ linesText xs ++ linesText ys
-unfolding linesText
+unfolding textOf
 both-texts [] ys = refl
 both-texts (x ∷ xs) ys = rw (both-texts xs ys, append-assoc)
 
@@ -42,7 +46,7 @@ one-line-more :
     (records : List (List ℕ)) (i : ℕ) → i < length records → textTo records (i + 1) ≡ textTo records i ++ lineText (lineAt records i)
 one-line-more records i h =
     rw (add-one i, take-suc (linesOf records) i Free (omega (arith, length-map records lineOf)))
-    (both-texts (take i (linesOf records)) (lineAt records i ∷ []) ∙ rw (one-text (lineAt records i)))
+    (both-texts (take i (linesOf records)) (lineAt records i ∷ []))
 
 -- the first i lines are no longer than the first n
 text-within : (records : List (List ℕ)) (i n : ℕ) → i ≤ n → length (textTo records i) ≤ length (textTo records n)
@@ -55,12 +59,12 @@ text-within records i n h =
 
 -- ---- a whole file
 abbrev headerOf : Grammar → Header → Bytes
-headerOf g h = fieldsText (headerFieldsOf g h)
+headerOf g h = textOf (headerForm g .text h ∷ [])
 
 module _ (g : Grammar) (h : Header) (records : List (List ℕ)) (count : ℕ) where
   whole-text : fileText g (fileOf (held h records count)) ≡ headerOf g h ++ textTo records count
-  unfolding fileText
-  whole-text = refl
+  unfolding Rows.fileText textOf
+  whole-text = sym (append-assoc (headerForm g .text h) (lineFeed ∷ []) (textTo records count))
 
   whole-length : length (fileText g (fileOf (held h records count))) ≡ length (headerOf g h) + length (textTo records count)
   whole-length = ap length whole-text ∙ length-append (headerOf g h) (textTo records count)

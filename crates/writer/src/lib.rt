@@ -7,13 +7,15 @@ ghost use mathlib.Core.Path.{_≡_};
 ghost use mathlib.Core.List.{[], _∷_};
 ghost use Prim.Native.Nat.{_+_, _≤_, _<_};
 ghost use lib.ListN.{length};
-ghost use lib.IntN.{natAbs};
+ghost use lib.IntN.{natAbs, pos};
 ghost use Rattle.fields.specs.Pieces.{tab, join};
 ghost use Rattle.fields.specs.Numbers.{decimal, amountText};
+ghost use Rattle.rows.specs.Forms.{saidText};
+ghost use Rattle.rows.specs.Lines.{textOf};
 ghost use Rattle.model.specs.Words.{ascii};
-ghost use Rattle.text.specs.Files.{fileOf};
+ghost use Rattle.text.specs.Tables.{fileOf};
 ghost use Rattle.tables.specs.Records.{held};
-ghost use Rattle.text.specs.Write.{fieldsOf, headerFieldsOf, fieldsText, lineText, fileText};
+ghost use Rattle.text.specs.Files.{headerForm, lineForm, fileText};
 ghost use Rattle.writer.specs.Put.{Put, Written, Counted, lastDigit, isNegative};
 
 // ---- bytes
@@ -193,8 +195,8 @@ fn rot_len(word: &[u8], a: u32, amount: i16) -> usize
 
 // ---- lines: the fields by the word, then the line feed. A free record has no fields.
 fn put_fields(out: &mut [u8], at: usize, line: Line) -> usize
-    requires { ⌜ at + length (join tab (fieldsOf line)) ≤ length (now out) ⌝ }
-    ensures { λ r. ⌜ Put (now (out .entry)) at (join tab (fieldsOf line)) r (now (out .exit)) ⌝ }
+    requires { ⌜ at + length (lineForm .text line) ≤ length (now out) ⌝ }
+    ensures { λ r. ⌜ Put (now (out .entry)) at (lineForm .text line) r (now (out .exit)) ⌝ }
 {
     match line {
         Line::In => put_bytes(out, at, b"in"),
@@ -220,7 +222,7 @@ fn put_fields(out: &mut [u8], at: usize, line: Line) -> usize
 }
 
 fn fields_len(line: Line) -> usize
-    ensures { λ r. ⌜ Counted (join tab (fieldsOf line)) 71 r ⌝ }
+    ensures { λ r. ⌜ Counted (lineForm .text line) 71 r ⌝ }
 {
     match line {
         Line::In => 2,
@@ -239,23 +241,23 @@ fn fields_len(line: Line) -> usize
 }
 
 fn put_line(out: &mut [u8], at: usize, line: Line) -> usize
-    requires { ⌜ at + length (lineText line) ≤ length (now out) ⌝ }
-    ensures { λ r. ⌜ Put (now (out .entry)) at (lineText line) r (now (out .exit)) ⌝ }
+    requires { ⌜ at + length (textOf (lineForm .text line ∷ [])) ≤ length (now out) ⌝ }
+    ensures { λ r. ⌜ Put (now (out .entry)) at (textOf (lineForm .text line ∷ [])) r (now (out .exit)) ⌝ }
 {
     let end = put_fields(out, at, line);
     put_byte(out, end, b'\n')
 }
 
 fn line_len(line: Line) -> usize
-    ensures { λ r. ⌜ Counted (lineText line) 72 r ⌝ }
+    ensures { λ r. ⌜ Counted (textOf (lineForm .text line ∷ [])) 72 r ⌝ }
 {
     fields_len(line) + 1
 }
 
 // ---- the header line: a word and three numbers
 fn put_header_fields(out: &mut [u8], at: usize, grammar: Grammar, header: Header) -> usize
-    requires { ⌜ at + length (join tab (headerFieldsOf grammar header)) ≤ length (now out) ⌝ }
-    ensures { λ r. ⌜ Put (now (out .entry)) at (join tab (headerFieldsOf grammar header)) r (now (out .exit)) ⌝ }
+    requires { ⌜ at + length (headerForm grammar .text header) ≤ length (now out) ⌝ }
+    ensures { λ r. ⌜ Put (now (out .entry)) at (headerForm grammar .text header) r (now (out .exit)) ⌝ }
 {
     match grammar {
         Grammar::Circuit => put_three(
@@ -278,7 +280,7 @@ fn put_header_fields(out: &mut [u8], at: usize, grammar: Grammar, header: Header
 }
 
 fn header_fields_len(grammar: Grammar, header: Header) -> usize
-    ensures { λ r. ⌜ Counted (join tab (headerFieldsOf grammar header)) 71 r ⌝ }
+    ensures { λ r. ⌜ Counted (headerForm grammar .text header) 71 r ⌝ }
 {
     match grammar {
         Grammar::Circuit => three_len(b"circuit", header.factor, header.waterline, header.top),
@@ -287,23 +289,23 @@ fn header_fields_len(grammar: Grammar, header: Header) -> usize
 }
 
 fn put_header(out: &mut [u8], at: usize, grammar: Grammar, header: Header) -> usize
-    requires { ⌜ at + length (fieldsText (headerFieldsOf grammar header)) ≤ length (now out) ⌝ }
-    ensures { λ r. ⌜ Put (now (out .entry)) at (fieldsText (headerFieldsOf grammar header)) r (now (out .exit)) ⌝ }
+    requires { ⌜ at + length (textOf (headerForm grammar .text header ∷ [])) ≤ length (now out) ⌝ }
+    ensures { λ r. ⌜ Put (now (out .entry)) at (textOf (headerForm grammar .text header ∷ [])) r (now (out .exit)) ⌝ }
 {
     let next = put_header_fields(out, at, grammar, header);
     put_byte(out, next, b'\n')
 }
 
 fn header_len(grammar: Grammar, header: Header) -> usize
-    ensures { λ r. ⌜ Counted (fieldsText (headerFieldsOf grammar header)) 72 r ⌝ }
+    ensures { λ r. ⌜ Counted (textOf (headerForm grammar .text header ∷ [])) 72 r ⌝ }
 {
     header_fields_len(grammar, header) + 1
 }
 
 // ---- the line of a refusal
 pub fn put_refused(out: &mut [u8], at: usize, number: u32, place: u32) -> usize
-    requires { ⌜ at + length (fieldsText (ascii "refused" ∷ decimal number ∷ decimal place ∷ [])) ≤ length (now out) ⌝ }
-    ensures { λ r. ⌜ Put (now (out .entry)) at (fieldsText (ascii "refused" ∷ decimal number ∷ decimal place ∷ [])) r (now (out .exit)) ⌝ }
+    requires { ⌜ at + length (textOf (saidText (ascii "refused") (pos number ∷ pos place ∷ []) ∷ [])) ≤ length (now out) ⌝ }
+    ensures { λ r. ⌜ Put (now (out .entry)) at (textOf (saidText (ascii "refused") (pos number ∷ pos place ∷ []) ∷ [])) r (now (out .exit)) ⌝ }
 {
     let next = put_two(out, at, b"refused", number, place);
     put_byte(out, next, b'\n')

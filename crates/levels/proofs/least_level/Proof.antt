@@ -47,7 +47,8 @@ least-level-spec =
     let read = places .before .before in
     let turn = read .before in
     let trying = turn .before .loop .inv in
-    let stopped = walk-stops (trying .walking) (turn .loop-test .taken) _ (read .line-at .ensures .0) _ _ (places .before .first-place .ensures) (places .second-place .ensures) _ (done .best-after .ensures) _ (c .before .before .number .given .1) in
+    let stopped = walk-stops (trying .walking) (turn .loop-test .taken) _ (read .line-at .ensures .0) _ _ (places .before .first-place .ensures) (places .second-place .ensures) _
+    (done .best-after .ensures) _ (c .before .before .number .given .1) in
     last-refused (turn .before .before .before .levels .inv) (turn .before .before .with-top .ensures) (trying .stays) stopped (c .if1 .taken))
     (λ c. search seeking)
     (λ c. search seeking)
@@ -57,7 +58,8 @@ least-level-spec =
     let read = places .before .before in
     let turn = read .before in
     let trying = turn .before .loop .inv in
-    let stopped = walk-stops (trying .walking) (turn .loop-test .taken) _ (read .line-at .ensures .0) _ _ (places .before .first-place .ensures) (places .second-place .ensures) _ (done .best-after .ensures) _ (c .before .before .number .given .1) in
+    let stopped = walk-stops (trying .walking) (turn .loop-test .taken) _ (read .line-at .ensures .0) _ _ (places .before .first-place .ensures) (places .second-place .ensures) _
+    (done .best-after .ensures) _ (c .before .before .number .given .1) in
     next-level (turn .before .before .before .levels .inv) (turn .before .before .with-top .ensures) (trying .stays) stopped (trying .walking) (c .if1 .left))
     (λ c. search seeking)
     (λ c. search seeking)
@@ -70,7 +72,11 @@ least-level-spec =
     let read = places .before .before in
     let turn = read .before in
     let trying = turn .before .loop .inv in
-    record { walking = walk-more (trying .walking) (turn .loop-test .taken) _ (read .line-at .ensures .0) _ _ (places .before .first-place .ensures) (places .second-place .ensures) _ (done .best-after .ensures) _ (c .before .best .given .1); stays = trying .stays })
+    record {
+      walking = walk-more (trying .walking) (turn .loop-test .taken) _ (read .line-at .ensures .0) _ _ (places .before .first-place .ensures)
+          (places .second-place .ensures) _ (done .best-after .ensures) _ (c .before .best .given .1);
+      stays = trying .stays;
+    })
     (λ c.
     let trying = c .before .loop .inv in
     level-found (c .before .before .before .levels .inv) (c .before .before .with-top .ensures) (trying .stays) (walk-done (trying .walking) (c .loop-test .left))))

@@ -10,10 +10,19 @@ use lib.ListN.{take}
 use Rattle.model.specs.declared.Line.{Line}
 use Rattle.model.specs.declared.Grammar.the-variants.{Circuit, Schedule}
 use Rattle.model.specs.declared.Answer.the-variants.{Done, Level, Refused}
-use Rattle.model.specs.Files.{File, wellFormed, placeOf}
-use Rattle.model.specs.Services.{erase}
+use Rattle.rows.specs.Rows.{placeOf}
+use Rattle.model.specs.Files.{File, wellFormed}
+use Rattle.model.specs.Services.{erase, eraseFile}
 use Rattle.model.specs.Refused.{check, rulesAnswer}
-use Rattle.model.specs.Demands.{Passed}
+use Rattle.model.specs.Rules.{KeepsRules}
+
+-- Demand 2: "each of its lines keeps the published RNS-CKKS rules for scale, level and waterline, and striking out the encode, rescale,
+-- modswitch and upscale lines leaves that circuit". Of files: the promises say it of bytes.
+pub record PassedFiles (circuit schedule : File) : Type 0 where
+  pub circuit-formed : T (wellFormed Circuit (circuit .header) (circuit .lines))
+  pub schedule-formed : T (wellFormed Schedule (schedule .header) (schedule .lines))
+  pub keeps : KeepsRules (schedule .header) (schedule .lines)
+  pub erases : eraseFile schedule ≡ circuit
 
 -- the first line in which two lists differ: one that is missing in one of them differs too
 pub record FirstDifference (xs ys : List Line) (p : ℕ) : Type 0 where
@@ -33,7 +42,7 @@ pub record ByRules (circuit schedule : File) (n p : ℕ) : Type 0 where
   pub by-rules : rulesAnswer (schedule .header) (schedule .lines) ≡ Refused n p
 
 pub record Judges (circuit schedule : File) : Type 0 where
-  pub passes : (check circuit schedule ≡ Done) ↔ Passed circuit schedule
+  pub passes : (check circuit schedule ≡ Done) ↔ PassedFiles circuit schedule
   pub refuses : (n p : ℕ) → check circuit schedule ≡ Refused n p → ((n ≡ 12) × OtherCircuit circuit schedule p) ⊎ ByRules circuit schedule n p
   pub no-level : (l : ℕ) → check circuit schedule ≡ Level l → ⊥
 

@@ -1,8 +1,8 @@
 -- "Erasing keeps the lines with circuit words": what a well-formed schedule erases to is a well-formed circuit, whether or not the rules hold.
 -- Its lines are the kept ones in order, and "an operand on a struck line becomes the kept line that it was made from, and values are counted anew".
-use Prim.Native.Nat.{ℕ, _<_}
+use Prim.Native.Nat.{ℕ, suc, _<_}
 use mathlib.Core.Path.{_≡_}
-use mathlib.Core.List.{List}
+use mathlib.Core.List.{List, [], _∷_, _++_}
 use mathlib.Core.Option.{some}
 use lib.Dec.{T}
 use lib.ListN.{length, getD, getElem?}
@@ -11,7 +11,19 @@ use Rattle.model.specs.declared.Line.{Line}
 use Rattle.model.specs.declared.Line.the-variants.{Free}
 use Rattle.model.specs.declared.Grammar.the-variants.{Circuit, Schedule}
 use Rattle.model.specs.Files.{wellFormed}
-use Rattle.model.specs.Services.{kept, madeFrom, fateOf, renamed, erase, origins, keptLines}
+use Rattle.model.specs.Services.{kept, madeFrom, fateOf, renamed, erase, keptLines}
+
+-- for each line the kept line that it is or was made from
+abbrev pub originsFrom : List ℕ → ℕ → List Line → List ℕ
+originsFrom origins count [] = origins
+originsFrom origins count (x ∷ xs) =
+    elim (fateOf x) [
+      | kept ↦ originsFrom (origins ++ (count ∷ [])) (suc count) xs
+      | madeFrom a ↦ originsFrom (origins ++ (getD origins a count ∷ [])) count xs
+    ]
+
+abbrev pub origins : List Line → List ℕ
+origins schedule = originsFrom [] 0 schedule
 
 -- line j of the circuit is the j-th kept line, with each operand replaced by the kept line that it is or was made from
 pub record IsKeptLine (schedule : List Line) (j : ℕ) : Type 0 where

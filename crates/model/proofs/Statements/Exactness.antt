@@ -3,7 +3,8 @@
 -- line but a bare constant then holds exactly the circuit's own numbers, …, times two to its scale." Of any length.
 use Rattle.model.specs.Files.{File}
 use Rattle.model.specs.Machines.{Handed}
-use Rattle.model.specs.Demands.{Passed, Exact}
+use Rattle.model.specs.Demands.{Exact}
+use Rattle.model.proofs.Statements.Check.{PassedFiles}
 
 abbrev pub Statement : Type 0
-Statement = (circuit schedule : File) → Passed circuit schedule → (H : Handed) → Exact H (schedule .header) (circuit .lines) (schedule .lines)
+Statement = (circuit schedule : File) → PassedFiles circuit schedule → (H : Handed) → Exact H (schedule .header) (circuit .lines) (schedule .lines)

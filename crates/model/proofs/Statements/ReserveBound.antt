@@ -15,19 +15,20 @@ use Rattle.model.specs.Scales.{reserve}
 use Rattle.model.specs.Files.{wellFormed, kindOf, isCiphertext}
 use Rattle.model.specs.Machine.{finished, run}
 use Rattle.model.specs.Rules.{KeepsRules}
-use Rattle.model.specs.declared.Placement.{Placement}
+use Rattle.model.specs.declared.Choice.{Choice}
 use Rattle.model.specs.declared.Best.{Best}
 use Rattle.model.specs.declared.Best.the-variants as Bests
 use Rattle.model.specs.Plan.{bestMachine}
-use Rattle.model.specs.Services.{erase, origins}
+use Rattle.model.specs.Services.{erase}
+use Rattle.model.proofs.Statements.Erasing.{origins}
 
 -- line i of the schedule, against its circuit line
 pub record AtMostBest (h : Header) (schedule : List Line) (keeps : KeepsRules h schedule) (best : List Best) (i : ℕ) : Type 0 where
   pub from : ℕ
-  pub placement : Placement
+  pub choice : Choice
   pub comes-from : getElem? (origins schedule) i ≡ some from
-  pub best-is : getElem? best from ≡ some (Bests.Ciphertext placement)
-  pub at-most : reserve h (keeps .scale i) (keeps .level i) ≤ℤ placement .reserve
+  pub best-is : getElem? best from ≡ some (Bests.Ciphertext choice)
+  pub at-most : reserve h (keeps .scale i) (keeps .level i) ≤ℤ choice .reserve
 
 pub record Bounded (h : Header) (circuit schedule : List Line) (keeps : KeepsRules h schedule) : Type 0 where
   pub best : List Best

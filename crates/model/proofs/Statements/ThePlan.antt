@@ -14,25 +14,25 @@ use Rattle.model.specs.Scales.{reserve}
 use Rattle.model.specs.Files.{File, wellFormed, kindOf, isCiphertext, limit}
 use Rattle.model.specs.Machine.{finished, run}
 use Rattle.model.specs.Rules.{KeepsRules}
-use Rattle.model.specs.declared.Placement.{Placement}
+use Rattle.model.specs.declared.Choice.{Choice}
 use Rattle.model.specs.declared.Best.{Best}
 use Rattle.model.specs.declared.Best.the-variants as Bests
 use Rattle.model.specs.Plan.{bestMachine}
-use Rattle.model.specs.Services.{written, plan, keptLines}
+use Rattle.model.specs.Services.{scheduled, plan, keptLines}
 use Rattle.model.specs.Refused.{check}
-use Rattle.model.specs.Demands.{Passed}
+use Rattle.model.proofs.Statements.Check.{PassedFiles}
 
 -- the kept line of circuit line j has the best reserve of that line, at the level chosen for it
 pub record AttainsBest (schedule : File) (keeps : KeepsRules (schedule .header) (schedule .lines)) (best : List Best) (j : ℕ) : Type 0 where
   pub line : ℕ
-  pub placement : Placement
+  pub choice : Choice
   pub kept : getElem? (keptLines (schedule .lines)) j ≡ some line
-  pub best-is : getElem? best j ≡ some (Bests.Ciphertext placement)
-  pub reserve-is : reserve (schedule .header) (keeps .scale line) (keeps .level line) ≡ placement .reserve
-  pub level-is : keeps .level line ≡ placement .level
+  pub best-is : getElem? best j ≡ some (Bests.Ciphertext choice)
+  pub reserve-is : reserve (schedule .header) (keeps .scale line) (keeps .level line) ≡ choice .reserve
+  pub level-is : keeps .level line ≡ choice .level
 
 pub record IsRight (circuit schedule : File) : Type 0 where
-  pub passed : Passed circuit schedule
+  pub passed : PassedFiles circuit schedule
   pub checked : check circuit schedule ≡ Done
   pub few : length (circuit .lines) ≤ limit Circuit → length (schedule .lines) ≤ limit Schedule
   pub best : List Best
@@ -41,4 +41,4 @@ pub record IsRight (circuit schedule : File) : Type 0 where
       → AttainsBest schedule keeps best j
 
 abbrev pub Statement : Type 0
-Statement = (circuit : File) → T (wellFormed Circuit (circuit .header) (circuit .lines)) → (schedule : File) → plan circuit ≡ written schedule → IsRight circuit schedule
+Statement = (circuit : File) → T (wellFormed Circuit (circuit .header) (circuit .lines)) → (schedule : File) → plan circuit ≡ scheduled schedule → IsRight circuit schedule

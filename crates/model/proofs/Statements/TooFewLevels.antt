@@ -5,14 +5,15 @@ use mathlib.Core.Path.{_≡_}
 use lib.Dec.{T}
 use lib.ListN.{length, take}
 use Rattle.model.specs.declared.Grammar.the-variants.{Circuit}
-use Rattle.model.specs.Files.{File, wellFormed, placeOf}
-use Rattle.model.specs.Services.{written, refused, plan}
+use Rattle.rows.specs.Rows.{placeOf}
+use Rattle.model.specs.Files.{File, wellFormed}
+use Rattle.model.specs.Services.{scheduled, unplanned, plan}
 use Rattle.model.specs.Demands.{Schedulable}
 
 -- planning refuses with 6, at some place
 pub record SaysTooFew (circuit : File) : Type 0 where
   pub place : ℕ
-  pub says : plan circuit ≡ refused 6 place
+  pub says : plan circuit ≡ unplanned 6 place
 
 -- "at the first line with best reserve below zero": the lines before it have a schedule, and with it they have none
 pub record FirstTooFew (circuit : File) (place : ℕ) : Type 0 where
@@ -24,7 +25,7 @@ pub record FirstTooFew (circuit : File) (place : ℕ) : Type 0 where
 
 pub record Writes (circuit : File) : Type 0 where
   pub schedule : File
-  pub writes : plan circuit ≡ written schedule
+  pub writes : plan circuit ≡ scheduled schedule
 
 pub record Decides (circuit : File) : Type 0 where
   -- 6 if and only if there is no schedule
@@ -35,7 +36,7 @@ pub record Decides (circuit : File) : Type 0 where
   pub writes-if : Schedulable (circuit .header) (circuit .lines) → Writes circuit
   pub writes-only : Writes circuit → Schedulable (circuit .header) (circuit .lines)
   -- no other refusal
-  pub only-six : (n p : ℕ) → plan circuit ≡ refused n p → n ≡ 6
+  pub only-six : (n p : ℕ) → plan circuit ≡ unplanned n p → n ≡ 6
 
 abbrev pub Statement : Type 0
 Statement = (circuit : File) → T (wellFormed Circuit (circuit .header) (circuit .lines)) → Decides circuit

@@ -1,13 +1,13 @@
--- The two machines on small files: each row's input is a file of its grammar and its outcome is the row's.
+-- The two machines and the plan on small files: each case's input is a file of its grammar, and the case ends as the table says.
 use Prim.Native.Nat.{ℕ, _<_}
 use mathlib.Core.Path.{_≡_}
 use lib.Dec.{T}
 use lib.ListN.{length, getD}
-use Rattle.model.specs.Worked.{Row, inputFormed, outcomeOf, table, noRow}
+use Rattle.model.specs.Worked.{Case, inputFormed, endsOf, cases, noCase}
 
-pub record Holds (r : Row) : Type 0 where
-  pub formed : T (inputFormed r)
-  pub outcome-is : outcomeOf (r .question) (r .input) ≡ r .outcome
+pub record Holds (c : Case) : Type 0 where
+  pub formed : T (inputFormed c)
+  pub ends-so : endsOf (c .asked) (c .input) ≡ c .ends
 
 abbrev pub Statement : Type 0
-Statement = (k : ℕ) → k < length table → Holds (getD table k noRow)
+Statement = (k : ℕ) → k < length cases → Holds (getD cases k noCase)

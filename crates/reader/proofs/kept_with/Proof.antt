@@ -3,17 +3,16 @@ use Prim.Native.Nat.{ℕ, _+_}
 use mathlib.Core.Path.{_≡_}
 use mathlib.Core.Bool.{Bool, true, false}
 use borrow.Author.Needs.{needs}
-use Rattle.model.specs.declared.Line.{Line}
-use Rattle.model.specs.Files.{isCircuitWord}
 use Rattle.reader.specs.Reads.{keptWith}
 use Rattle.reader.proofs.kept_with.Statement.{statement}
 use Rattle.reader.proofs.kept_with.Tie as tie
 
-kept-one : (kept : ℕ) (x : Line) (r : Bool) → r ≡ isCircuitWord x → r ≡ true → kept + 1 ≡ keptWith kept x
-kept-one kept x r is e = rw (← is, e)
+module _ (kept : ℕ) (has r : Bool) (q : r ≡ has) where
+  kept-one : r ≡ true → kept + 1 ≡ keptWith kept has
+  kept-one e = rw (← q, e)
 
-kept-none : (kept : ℕ) (x : Line) (r : Bool) → r ≡ isCircuitWord x → r ≡ false → kept ≡ keptWith kept x
-kept-none kept x r is e = rw (← is, e)
+  kept-none : r ≡ false → kept ≡ keptWith kept has
+  kept-none e = rw (← q, e)
 
 ruleset laws = (needs, kept-one, kept-none)
 

@@ -1,35 +1,27 @@
 -- `reader::past_limits` meets its contract: one law for each return, its premises the tests on the way. Assumes nothing.
 use Prim.Native.Nat.{ℕ, _≤_, _<_}
 use native.Mathlib.Omega.{arith}
-use mathlib.Core.Path.{_≡_, refl, _∙_}
-use mathlib.Core.Bool.{Bool, true, false, _&&_}
+use mathlib.Core.Path.{_≡_}
+use mathlib.Core.Bool.{Bool, true, false}
 use borrow.Author.Needs.{needs}
-use borrow.Author.Tests.{lt-ltb, le-ltb, le-leb, lt-leb}
+use borrow.Author.Tests.{le-leb, lt-leb}
 use Rattle.text.specs.declared.Context.{Context}
 use Rattle.reader.specs.Reads.{pastLimits}
 use Rattle.reader.proofs.past_limits.Statement.{statement}
 use Rattle.reader.proofs.past_limits.Tie as tie
 
-and-true : (b : Bool) → b ≡ b && true
-and-true true = refl
-and-true false = refl
-
-and-false : (b : Bool) → false ≡ b && false
-and-false true = refl
-and-false false = refl
-
 module _ (c : Context) (count kept : ℕ) (begins : Bool) where
   over : c .limit ≤ count → true ≡ pastLimits c count kept begins
   unfolding pastLimits
-  over h = rw (le-ltb count (c .limit) h)
+  over h = rw (le-leb (c .limit) count h)
 
-  few-kept : count < c .limit → kept < c .kept → false ≡ pastLimits c count kept begins
+  few-kept : count < c .limit → kept < c .keptlimit → false ≡ pastLimits c count kept begins
   unfolding pastLimits
-  few-kept h k = rw (lt-ltb count (c .limit) h, lt-leb (c .kept) kept k) (and-false begins)
+  few-kept h k = rw (lt-leb (c .limit) count h, lt-leb (c .keptlimit) kept k)
 
-  by-word : (r : Bool) → count < c .limit → c .kept ≤ kept → r ≡ begins → r ≡ pastLimits c count kept begins
+  by-word : (r : Bool) → count < c .limit → c .keptlimit ≤ kept → r ≡ begins → r ≡ pastLimits c count kept begins
   unfolding pastLimits
-  by-word r h k e = rw (lt-ltb count (c .limit) h, le-leb (c .kept) kept k) (e ∙ and-true begins)
+  by-word r h k e = rw (lt-leb (c .limit) count h, le-leb (c .keptlimit) kept k) e
 
 pub past-limits-spec : {M : Type 1} → statement M
 past-limits-spec =

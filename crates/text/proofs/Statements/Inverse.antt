@@ -5,10 +5,11 @@ use Prim.Native.Nat.{_≤_}
 use mathlib.Core.Path.{_≡_}
 use lib.Dec.{T, leb}
 use Rattle.fields.specs.Pieces.{Bytes}
-use Rattle.model.specs.Files.{Table, File, tableLines, TableFormed}
+use Rattle.text.specs.Tables.{Table, tableLines, TableFormed, fileOf, RestFree}
+use Rattle.model.specs.Files.{File}
 use Rattle.text.specs.declared.Context.{Context}
-use Rattle.text.specs.Files.{read, keptCount, readText, fileOf, RestFree, circuitContext, scheduleContext, eraseContext}
-use Rattle.text.specs.Write.{fileText}
+use Rattle.rows.specs.Rows.{read}
+use Rattle.text.specs.Files.{keptCount, readText, circuitContext, scheduleContext, eraseContext, fileText}
 
 -- Allowed says which well-formed tables a reading takes.
 module _ (c : Context) (Allowed : Table → Type 0) where

@@ -6,13 +6,14 @@ use mathlib.Core.List.{[], _∷_, _++_}
 use lib.ListN.{length}
 use Rattle.fields.specs.Pieces.{Bytes, lineFeed, split}
 use Rattle.text.specs.declared.Context.{Context}
-use Rattle.text.specs.Files.{refused, readText}
+use Rattle.rows.specs.Rows.{refused}
+use Rattle.text.specs.Files.{readText}
 
 -- the numbers that reading a file can give
 pub data IsNumber : ℕ → Type 0 where
   form : IsNumber 1
   header : IsNumber 2
-  lines : IsNumber 3
+  many : IsNumber 3
   operand : IsNumber 4
   kind : IsNumber 5
   range : IsNumber 11

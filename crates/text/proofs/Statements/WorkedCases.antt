@@ -2,7 +2,7 @@
 -- are written byte by byte. The program `readings` tries more such texts on the code, all byte by byte.
 use Prim.Native.Nat.{ℕ}
 use mathlib.Core.Path.{_≡_}
-use mathlib.Core.List.{List, [], _∷_, _++_}
+use mathlib.Core.List.{List, [], _∷_, _++_, map}
 use lib.IntN.{pos, negsuc}
 use lib.ListN.{replicate}
 use Rattle.fields.specs.Pieces.{Bytes, tab, join}
@@ -10,12 +10,23 @@ use Rattle.fields.specs.Numbers.{decimal, amountText}
 use Rattle.model.specs.declared.Grammar.{Grammar}
 use Rattle.model.specs.declared.Grammar.the-variants.{Circuit, Schedule}
 use Rattle.model.specs.declared.Header.{Header}
-use Rattle.model.specs.declared.Line as L
+use Rattle.model.specs.declared.Line as Lines
 use Rattle.model.specs.declared.Line.{Line}
+use Rattle.model.specs.declared.Word.{Word}
 use Rattle.model.specs.declared.Word.the-variants.{In, Const, Neg, Rot, Add, Mul, Out, Enc, Rs, Ms, Us}
-use Rattle.text.specs.Words.{wordText, headerWord}
-use Rattle.text.specs.Files.{Reading, read, refused, readText, circuitContext, scheduleContext, eraseContext}
-use Rattle.text.specs.Write.{fieldsText, linesText}
+use Rattle.model.specs.Words.{entry}
+use Rattle.model.specs.Files.{File}
+use Rattle.rows.specs.Lines.{textOf}
+use Rattle.rows.specs.Rows.{Reading, read, refused, rowsFrom}
+use Rattle.text.specs.declared.Context.{Context}
+use Rattle.text.specs.Files.{headerWord, lineForm, format, readText, circuitContext, scheduleContext, eraseContext}
+
+-- fields as a closed line, and a word's bytes
+abbrev fieldsText : List Bytes → Bytes
+fieldsText fields = textOf (join tab fields ∷ [])
+
+abbrev wordText : Word → Bytes
+wordText w = entry w .bytes
 
 abbrev header : Grammar → Bytes
 header g = fieldsText (headerWord g ∷ decimal 60 ∷ decimal 20 ∷ decimal 2 ∷ [])
@@ -24,16 +35,16 @@ abbrev numbers : Header
 numbers = record { factor = 60; waterline = 20; top = 2 }
 
 -- after the header `circuit 60 20 2`, and after `schedule 60 20 2`
-abbrev circuit : Bytes → Reading
+abbrev circuit : Bytes → Reading File
 circuit lines = readText circuitContext (header Circuit ++ lines)
 
-abbrev schedule : Bytes → Reading
+abbrev schedule : Bytes → Reading File
 schedule lines = readText scheduleContext (header Schedule ++ lines)
 
-abbrev erasing : Bytes → Reading
+abbrev erasing : Bytes → Reading File
 erasing lines = readText eraseContext (header Schedule ++ lines)
 
-abbrev file : List Line → Reading
+abbrev file : List Line → Reading File
 file lines = read (record { header = numbers; lines = lines })
 
 abbrev in-line : Bytes
@@ -56,19 +67,28 @@ after-in fields = in-line ++ fieldsText fields
 abbrev after-const : List Bytes → Bytes
 after-const fields = const-line ++ fieldsText fields
 
-abbrev headed : ℕ → ℕ → ℕ → Reading
+abbrev headed : ℕ → ℕ → ℕ → Reading File
 headed f w l = readText circuitContext (fieldsText (headerWord Circuit ∷ decimal f ∷ decimal w ∷ decimal l ∷ []))
 
-abbrev with-header : ℕ → ℕ → ℕ → Reading
+abbrev with-header : ℕ → ℕ → ℕ → Reading File
 with-header f w l = read (record { header = record { factor = f; waterline = w; top = l }; lines = [] })
 
 -- 256 lines that are kept
 abbrev kept-lines : Bytes
-kept-lines = linesText (replicate 256 L.the-variants.In)
+kept-lines = textOf (map (lineForm .text) (replicate 256 Lines.the-variants.In))
+
+-- so many lines that are struck
+abbrev struck-lines : ℕ → List Line
+struck-lines n = replicate n (Lines.the-variants.Ms 0 1)
+
+-- one line more, `const 0`, after so many lines that are struck: reading all of them would take most of the check's time
+abbrev one-more : Context → ℕ → Reading (List Line)
+one-more c n = rowsFrom (format c) numbers (struck-lines n) (join tab (wordText Const ∷ decimal 0 ∷ []) ∷ [])
 
 pub record Statement : Type 0 where
   -- `circuit 60 20 2 / in /` and `circuit 60 20 2 / neg 0 /`
-  pub bytes-read : readText circuitContext (99 ∷ 105 ∷ 114 ∷ 99 ∷ 117 ∷ 105 ∷ 116 ∷ 9 ∷ 54 ∷ 48 ∷ 9 ∷ 50 ∷ 48 ∷ 9 ∷ 50 ∷ 10 ∷ 105 ∷ 110 ∷ 10 ∷ []) ≡ file (L.the-variants.In ∷ [])
+  pub bytes-read : readText circuitContext (99 ∷ 105 ∷ 114 ∷ 99 ∷ 117 ∷ 105 ∷ 116 ∷ 9 ∷ 54 ∷ 48 ∷ 9 ∷ 50 ∷ 48 ∷ 9 ∷ 50 ∷ 10 ∷ 105 ∷ 110 ∷ 10 ∷ []) ≡ file
+      (Lines.the-variants.In ∷ [])
   pub bytes-refused : readText circuitContext (99 ∷ 105 ∷ 114 ∷ 99 ∷ 117 ∷ 105 ∷ 116 ∷ 9 ∷ 54 ∷ 48 ∷ 9 ∷ 50 ∷ 48 ∷ 9 ∷ 50 ∷ 10 ∷ 110 ∷ 101 ∷ 103 ∷ 9 ∷ 48 ∷ 10 ∷ []) ≡ refused 4 2
   -- ---- the header
   pub empty : readText circuitContext [] ≡ refused 1 1
@@ -106,26 +126,26 @@ pub record Statement : Type 0 where
   pub minus-before-zero : circuit (after-in (wordText Rot ∷ decimal 0 ∷ minus-zero ∷ [])) ≡ refused 1 3
   pub schedule-word : circuit (after-in (wordText Rs ∷ decimal 0 ∷ decimal 1 ∷ [])) ≡ refused 1 3
   -- ---- ranges
-  pub constant-most : circuit (fieldsText (wordText Const ∷ decimal 65535 ∷ [])) ≡ file (L.the-variants.Const 65535 ∷ [])
+  pub constant-most : circuit (fieldsText (wordText Const ∷ decimal 65535 ∷ [])) ≡ file (Lines.the-variants.Const 65535 ∷ [])
   pub constant-over : circuit (fieldsText (wordText Const ∷ decimal 65536 ∷ [])) ≡ refused 11 2
-  pub turn-most : circuit (after-in (wordText Rot ∷ decimal 0 ∷ amountText (pos 32767) ∷ [])) ≡ file (L.the-variants.In ∷ L.the-variants.Rot 0 (pos 32767) ∷ [])
+  pub turn-most : circuit (after-in (wordText Rot ∷ decimal 0 ∷ amountText (pos 32767) ∷ [])) ≡ file (Lines.the-variants.In ∷ Lines.the-variants.Rot 0 (pos 32767) ∷ [])
   pub turn-over : circuit (after-in (wordText Rot ∷ decimal 0 ∷ amountText (pos 32768) ∷ [])) ≡ refused 11 3
-  pub turn-least : circuit (after-in (wordText Rot ∷ decimal 0 ∷ amountText (negsuc 32766) ∷ [])) ≡ file (L.the-variants.In ∷ L.the-variants.Rot 0 (negsuc 32766) ∷ [])
+  pub turn-least : circuit (after-in (wordText Rot ∷ decimal 0 ∷ amountText (negsuc 32766) ∷ [])) ≡ file (Lines.the-variants.In ∷ Lines.the-variants.Rot 0 (negsuc 32766) ∷ [])
   pub turn-below : circuit (after-in (wordText Rot ∷ decimal 0 ∷ amountText (negsuc 32767) ∷ [])) ≡ refused 11 3
-  pub encoded-least : schedule (after-const (wordText Enc ∷ decimal 0 ∷ decimal 1 ∷ decimal 1 ∷ [])) ≡ file (L.the-variants.Const 0 ∷ L.the-variants.Enc 0 1 1 ∷ [])
-  pub encoded-most : schedule (after-const (wordText Enc ∷ decimal 0 ∷ decimal 3600 ∷ decimal 2 ∷ [])) ≡ file (L.the-variants.Const 0 ∷ L.the-variants.Enc 0 3600 2 ∷ [])
+  pub encoded-least : schedule (after-const (wordText Enc ∷ decimal 0 ∷ decimal 1 ∷ decimal 1 ∷ [])) ≡ file (Lines.the-variants.Const 0 ∷ Lines.the-variants.Enc 0 1 1 ∷ [])
+  pub encoded-most : schedule (after-const (wordText Enc ∷ decimal 0 ∷ decimal 3600 ∷ decimal 2 ∷ [])) ≡ file (Lines.the-variants.Const 0 ∷ Lines.the-variants.Enc 0 3600 2 ∷ [])
   pub scale-zero : schedule (after-const (wordText Enc ∷ decimal 0 ∷ decimal 0 ∷ decimal 1 ∷ [])) ≡ refused 11 3
   pub scale-over : schedule (after-const (wordText Enc ∷ decimal 0 ∷ decimal 3601 ∷ decimal 1 ∷ [])) ≡ refused 11 3
   pub level-zero : schedule (after-const (wordText Enc ∷ decimal 0 ∷ decimal 20 ∷ decimal 0 ∷ [])) ≡ refused 11 3
   pub level-over : schedule (after-const (wordText Enc ∷ decimal 0 ∷ decimal 20 ∷ decimal 3 ∷ [])) ≡ refused 11 3
   pub rescales-none : schedule (after-in (wordText Rs ∷ decimal 0 ∷ decimal 0 ∷ [])) ≡ refused 11 3
-  pub rescales-most : schedule (after-in (wordText Rs ∷ decimal 0 ∷ decimal 60 ∷ [])) ≡ file (L.the-variants.In ∷ L.the-variants.Rs 0 60 ∷ [])
+  pub rescales-most : schedule (after-in (wordText Rs ∷ decimal 0 ∷ decimal 60 ∷ [])) ≡ file (Lines.the-variants.In ∷ Lines.the-variants.Rs 0 60 ∷ [])
   pub rescales-over : schedule (after-in (wordText Rs ∷ decimal 0 ∷ decimal 61 ∷ [])) ≡ refused 11 3
   pub modswitches-none : schedule (after-in (wordText Ms ∷ decimal 0 ∷ decimal 0 ∷ [])) ≡ refused 11 3
-  pub modswitches-most : schedule (after-in (wordText Ms ∷ decimal 0 ∷ decimal 60 ∷ [])) ≡ file (L.the-variants.In ∷ L.the-variants.Ms 0 60 ∷ [])
+  pub modswitches-most : schedule (after-in (wordText Ms ∷ decimal 0 ∷ decimal 60 ∷ [])) ≡ file (Lines.the-variants.In ∷ Lines.the-variants.Ms 0 60 ∷ [])
   pub modswitches-over : schedule (after-in (wordText Ms ∷ decimal 0 ∷ decimal 61 ∷ [])) ≡ refused 11 3
   pub bits-none : schedule (after-in (wordText Us ∷ decimal 0 ∷ decimal 0 ∷ [])) ≡ refused 11 3
-  pub bits-most : schedule (after-in (wordText Us ∷ decimal 0 ∷ decimal 3600 ∷ [])) ≡ file (L.the-variants.In ∷ L.the-variants.Us 0 3600 ∷ [])
+  pub bits-most : schedule (after-in (wordText Us ∷ decimal 0 ∷ decimal 3600 ∷ [])) ≡ file (Lines.the-variants.In ∷ Lines.the-variants.Us 0 3600 ∷ [])
   pub bits-over : schedule (after-in (wordText Us ∷ decimal 0 ∷ decimal 3601 ∷ [])) ≡ refused 11 3
   pub form-before-range : schedule (after-const (wordText Enc ∷ decimal 0 ∷ decimal 3601 ∷ leading-zero ∷ [])) ≡ refused 1 3
   pub range-before-operand : circuit (fieldsText (wordText Rot ∷ decimal 0 ∷ amountText (pos 32768) ∷ [])) ≡ refused 11 2
@@ -134,16 +154,22 @@ pub record Statement : Type 0 where
   pub operand-out : circuit (after-in (wordText Out ∷ decimal 0 ∷ []) ++ fieldsText (wordText Neg ∷ decimal 1 ∷ [])) ≡ refused 4 4
   pub constant-negated : circuit (after-const (wordText Neg ∷ decimal 0 ∷ [])) ≡ refused 5 3
   pub two-constants : circuit (after-const (wordText Mul ∷ decimal 0 ∷ decimal 0 ∷ [])) ≡ refused 5 3
-  pub constant-second : circuit (in-line ++ after-const (wordText Add ∷ decimal 0 ∷ decimal 1 ∷ [])) ≡ file (L.the-variants.In ∷ L.the-variants.Const 0 ∷ L.the-variants.Add 0 1 ∷ [])
+  pub constant-second : circuit (in-line ++ after-const (wordText Add ∷ decimal 0 ∷ decimal 1 ∷ []))
+      ≡ file (Lines.the-variants.In ∷ Lines.the-variants.Const 0 ∷ Lines.the-variants.Add 0 1 ∷ [])
   pub operand-before-kind : circuit (after-const (wordText Mul ∷ decimal 0 ∷ decimal 1 ∷ [])) ≡ refused 4 3
   pub bare-constant : schedule (in-line ++ after-const (wordText Mul ∷ decimal 0 ∷ decimal 1 ∷ [])) ≡ refused 5 4
   pub ciphertext-encoded : schedule (after-in (wordText Enc ∷ decimal 0 ∷ decimal 20 ∷ decimal 2 ∷ [])) ≡ refused 5 3
   pub first-line-told : circuit (after-in (wordText Neg ∷ decimal 5 ∷ []) ++ fieldsText []) ≡ refused 4 3
   -- ---- how many lines
-  pub lines-256 : circuit kept-lines ≡ file (replicate 256 L.the-variants.In)
+  pub lines-256 : circuit kept-lines ≡ file (replicate 256 Lines.the-variants.In)
   pub lines-257 : circuit (kept-lines ++ (45 ∷ [])) ≡ refused 3 258
+  -- a schedule's limit, and the same in erasing: our own rows, worked by hand. Value 1791 is the 1,792nd line; value 1792 stands at place 1794.
+  pub lines-1792 : one-more scheduleContext 1791 ≡ read (struck-lines 1791 ++ (Lines.the-variants.Const 0 ∷ []))
+  pub lines-1793 : one-more scheduleContext 1792 ≡ refused 3 1794
+  pub erased-1792 : one-more eraseContext 1791 ≡ read (struck-lines 1791 ++ (Lines.the-variants.Const 0 ∷ []))
+  pub erased-1793 : one-more eraseContext 1792 ≡ refused 3 1794
   pub kept-257 : erasing (kept-lines ++ (fieldsText (wordText Ms ∷ decimal 0 ∷ decimal 1 ∷ []) ++ in-line)) ≡ refused 3 259
   pub kept-not-of-form : erasing (kept-lines ++ fieldsText (wordText In ∷ decimal 5 ∷ [])) ≡ refused 3 258
   pub kept-unclosed : erasing (kept-lines ++ wordText In) ≡ refused 3 258
-  pub struck-257 : erasing (kept-lines ++ fieldsText (wordText Ms ∷ decimal 0 ∷ decimal 1 ∷ [])) ≡ file (replicate 256 L.the-variants.In ++ (L.the-variants.Ms 0 1 ∷ []))
+  pub struck-257 : erasing (kept-lines ++ fieldsText (wordText Ms ∷ decimal 0 ∷ decimal 1 ∷ [])) ≡ file (replicate 256 Lines.the-variants.In ++ (Lines.the-variants.Ms 0 1 ∷ []))
   pub struck-unclosed : erasing (kept-lines ++ wordText Ms) ≡ refused 1 258

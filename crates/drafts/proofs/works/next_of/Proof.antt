@@ -6,4 +6,5 @@ use Rattle.drafts.proofs.works.next_of.Tie as tie
 pub next-of-spec : {M : Type 1} → statement M
 next-of-spec =
     tie.close
-    (tie.spec (λ c. search work-laws) (λ c. search work-laws) (λ c. search work-laws) (λ c. search work-laws) (λ c. search work-laws) (λ c. search work-laws) (λ c. search work-laws))
+    (tie.spec (λ c. search work-laws) (λ c. search work-laws) (λ c. search work-laws) (λ c. search work-laws) (λ c. search work-laws) (λ c. search work-laws)
+    (λ c. search work-laws))

@@ -1,5 +1,5 @@
--- `lines::judging::kinds_fit` meets its contract: what the operands are decides which kinds fit. Assumes nothing.
-use Rattle.lines.proofs.JudgeLaws.{judge-laws}
+-- `lines::judging::kinds_fit` meets its contract. Assumes nothing.
+use Rattle.lines.proofs.KindLaws.{kind-laws}
 use Rattle.lines.proofs.judging.kinds_fit.Statement.{statement}
 use Rattle.lines.proofs.judging.kinds_fit.Tie as tie
 
@@ -7,14 +7,14 @@ pub kinds-fit-spec : {M : Type 1} → statement M
 kinds-fit-spec =
     tie.close
     (tie.spec
-    (λ c. search judge-laws)
-    (λ c. search judge-laws)
-    (λ c κs. search judge-laws)
-    (λ c. search judge-laws)
-    (λ c κs. search judge-laws)
-    (λ c. search judge-laws)
-    (λ c κs. search judge-laws)
-    (λ c. search judge-laws)
-    (λ c. search judge-laws)
-    (λ c. search judge-laws)
-    (λ c. search judge-laws))
+    (λ c. search kind-laws)
+    (λ c. search kind-laws)
+    (λ c κs. search kind-laws)
+    (λ c. search kind-laws)
+    (λ c κs. search kind-laws)
+    (λ c. search kind-laws)
+    (λ c κs. search kind-laws)
+    (λ c. search kind-laws)
+    (λ c. search kind-laws)
+    (λ c. search kind-laws)
+    (λ c. search kind-laws))

@@ -1,4 +1,4 @@
--- `lines::kinds::is_pair` meets its contract: one law for each return, its premises the tests on the way. Assumes nothing.
+-- `lines::kinds::is_pair` meets its contract. Assumes nothing.
 use Rattle.lines.proofs.KindLaws.{kind-laws}
 use Rattle.lines.proofs.kinds.is_pair.Statement.{statement}
 use Rattle.lines.proofs.kinds.is_pair.Tie as tie

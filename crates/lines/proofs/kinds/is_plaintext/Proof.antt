@@ -1,4 +1,4 @@
--- `lines::kinds::is_plaintext` meets its contract: the kind decides, and for constants the grammar. Assumes nothing.
+-- `lines::kinds::is_plaintext` meets its contract. Assumes nothing.
 use Rattle.lines.proofs.KindLaws.{kind-laws}
 use Rattle.lines.proofs.kinds.is_plaintext.Statement.{statement}
 use Rattle.lines.proofs.kinds.is_plaintext.Tie as tie

@@ -1,0 +1,7 @@
+-- `fields::field_at` meets its contract. Assumes nothing.
+use Rattle.fields.proofs.FieldLaws.{place-laws}
+use Rattle.fields.proofs.field_at.Statement.{statement}
+use Rattle.fields.proofs.field_at.Tie as tie
+
+pub field-at-spec : {M : Type 1} → statement M
+field-at-spec = tie.close (tie.spec (λ c κs. search place-laws) (λ c. search place-laws) (λ c κs. search place-laws) (λ c. search place-laws))

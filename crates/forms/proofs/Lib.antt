@@ -1,0 +1,4 @@
+pub mod AlongLaws
+mod NumbersLoop
+pub mod WordLaws
+pub mod TextLaws

@@ -1,7 +1,0 @@
--- `lines::forms::no_field` meets its contract: one law for each return, its premises the tests on the way. Assumes nothing.
-use Rattle.lines.proofs.FormLaws.{form-laws}
-use Rattle.lines.proofs.forms.no_field.Statement.{statement}
-use Rattle.lines.proofs.forms.no_field.Tie as tie
-
-pub no-field-spec : {M : Type 1} → statement M
-no-field-spec = tie.close (tie.spec (λ c κs. search form-laws) (λ c. search form-laws) (λ c. search form-laws))

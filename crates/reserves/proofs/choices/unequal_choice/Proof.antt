@@ -1,0 +1,14 @@
+-- `reserves::choices::unequal_choice` meets its contract: the smaller reserve is kept. Assumes nothing.
+use Rattle.reserves.proofs.ChoiceLaws.{choices}
+use Rattle.reserves.proofs.choices.unequal_choice.Statement.{statement}
+use Rattle.reserves.proofs.choices.unequal_choice.Tie as tie
+
+pub unequal-choice-spec : {M : Type 1} → statement M
+unequal-choice-spec =
+    tie.close
+    (tie.spec
+    (λ c κs. search choices)
+    (λ c κs. search choices)
+    (λ c. search choices)
+    (λ c κs. search choices)
+    (λ c. search choices))

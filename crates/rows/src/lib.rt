@@ -1,0 +1,1 @@
+// Definitions and laws of files as rows; no code.

@@ -1,0 +1,23 @@
+#!/usr/bin/env bash
+# Prints, file by file, how many lines have to be believed: all that the promises of the exported services reach. Imports, comments, blank lines and
+# worked tables are not counted. What only code or proofs use stands in files of its own, which are not listed here.
+set -euo pipefail
+cd "$(dirname "${BASH_SOURCE[0]}")/../crates"
+
+# Definitions.
+definitions() {
+  for file in fields/specs/{Pieces,Numbers}.antt rows/specs/{Fields,Forms,Lines,Rows}.antt ints/specs/Parts.antt \
+    model/specs/{Scales,Words,Files,Machine,Rules,Machines,Plan,Services,Refused,Broken,Demands}.antt text/specs/Files.antt \
+    services/specs/{Outcomes,Promises}.antt; do
+    printf '%5d  crates/%s\n' "$(grep -cvE '^[[:space:]]*(--.*|(pub |unfoldable )*use .*)?$' "$file")" "$file"
+  done
+}
+
+# Declared types: structs and enums, with their fields and cases.
+types() {
+  for file in fields/src/lib.rt model/src/lib.rt text/src/lib.rt services/src/lib.rt; do
+    printf '%5d  crates/%s\n' "$(awk '/^pub (struct|enum) /{inside=1} inside && !/^[[:space:]]*(\/\/.*)?$/{n++} /^}/{inside=0} END{print n+0}' "$file")" "$file"
+  done
+}
+
+{ definitions; types; } | awk '{ print; sum += $1 } END { printf "%5d  lines in all\n", sum }'
