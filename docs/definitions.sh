@@ -13,11 +13,16 @@ definitions() {
   done
 }
 
-# Declared types: structs and enums, with their fields and cases.
+# Declared types that the definitions use, with their fields and cases.
 types() {
-  for file in fields/src/lib.rt model/src/lib.rt text/src/lib.rt services/src/lib.rt; do
-    printf '%5d  crates/%s\n' "$(awk '/^pub (struct|enum) /{inside=1} inside && !/^[[:space:]]*(\/\/.*)?$/{n++} /^}/{inside=0} END{print n+0}' "$file")" "$file"
-  done
+  while read -r file names; do
+    printf '%5d  crates/%s\n' "$(awk -v names=" $names " '/^pub (struct|enum) /{inside=index(names, " " $3 " ")} inside && !/^[[:space:]]*(\/\/.*)?$/{n++} /^}/{inside=0} END{print n+0}' "$file")" "$file"
+  done <<'TYPES'
+fields/src/lib.rt Field Amount
+model/src/lib.rt Header Word Line Grammar Kind Choice Best Found Answer
+text/src/lib.rt Context
+services/src/lib.rt Reply
+TYPES
 }
 
 { definitions; types; } | awk '{ print; sum += $1 } END { printf "%5d  lines in all\n", sum }'
