@@ -7,7 +7,7 @@ cd "$(dirname "${BASH_SOURCE[0]}")/../crates"
 # Definitions.
 definitions() {
   for file in fields/specs/{Pieces,Numbers}.antt rows/specs/{Fields,Forms,Lines,Rows}.antt ints/specs/Parts.antt \
-    model/specs/{Scales,Words,Files,Machine,Rules,Machines,Plan,Services,Refused,Broken,Demands}.antt text/specs/Files.antt \
+    model/specs/{Scales,Words,Files,Machine,Rules,Machines,Plan,Services,Broken,Demands}.antt text/specs/Files.antt \
     services/specs/{Outcomes,Promises}.antt; do
     printf '%5d  crates/%s\n' "$(grep -cvE '^[[:space:]]*(--.*|(pub |unfoldable )*use .*)?$' "$file")" "$file"
   done
@@ -19,7 +19,7 @@ types() {
     printf '%5d  crates/%s\n' "$(awk -v names=" $names " '/^pub (struct|enum) /{inside=index(names, " " $3 " ")} inside && !/^[[:space:]]*(\/\/.*)?$/{n++} /^}/{inside=0} END{print n+0}' "$file")" "$file"
   done <<'TYPES'
 fields/src/lib.rt Field Amount
-model/src/lib.rt Header Word Line Grammar Kind Choice Best Found Answer
+model/src/lib.rt Header Word Line Grammar Kind Choice Best
 text/src/lib.rt Context
 services/src/lib.rt Reply
 TYPES

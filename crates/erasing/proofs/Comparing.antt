@@ -1,133 +1,170 @@
--- The loop that compares two tables: what holds whenever its test is reached, and what each way on from there says. Assumes nothing.
-use Prim.Native.Nat.{ℕ, _+_, _≤_, _<_, min}
+-- The loop that compares a circuit with an erasure: what holds whenever its test is reached, and what each way on from there says.
+-- Assumes nothing.
+use Prim.Native.Nat.{ℕ, suc, _+_, _≤_, _<_}
 use native.Mathlib.Numerals.{add-one}
 use native.Mathlib.Omega.{arith}
-use mathlib.Core.Path.{_≡_, refl, _∙_}
-use mathlib.Core.Bool.{Bool, true, false, cond}
-use mathlib.Core.List.{List}
+use mathlib.Core.Path.{_≡_, refl, sym, ap, _∙_}
+use mathlib.Core.Bool.{Bool, true, false, cond, true≢false}
+use mathlib.Core.List.{List, [], _∷_}
 use mathlib.Core.Logic.{⊎-elim}
 use borrow.Author.Needs.{needs}
 use borrow.Author.Tests.{not-true, not-false}
-use lib.ListN.{length, getD, drop}
+use lib.ListN.{length, getD, take, drop, set, replicate}
+use lib.Seq.{drop-drop}
 use Rattle.model.specs.declared.Header.{Header}
+use Rattle.model.specs.declared.Line.{Line}
 use Rattle.model.specs.declared.Line.the-variants.{Free}
 use Rattle.model.specs.declared.Answer.{Answer}
-use Rattle.model.specs.declared.Answer.the-variants.{Done, Refused}
+use Rattle.model.specs.declared.Answer.the-variants.{Refused}
 use Rattle.rows.specs.Rows.{placeOf}
-use Rattle.model.specs.Refused.{sameLine, sameHeader, compared}
+use Rattle.model.specs.Services.{renumbered, erase}
+use Rattle.model.specs.Answers.{sameLine, sameHeader, compared, rulesAnswer, check}
 use Rattle.model.proofs.Tests.{below-or-not}
 use Rattle.text.specs.Tables.{fileOf}
-use Rattle.tables.specs.Records.{linesOf, linesHeld, held}
-use Rattle.erasing.specs.Comparing.{difference}
+use Rattle.tables.specs.Records.{linesOf, linesHeld, held, isStruck}
+use Rattle.tables.specs.Operands.{firstOperand}
 use Rattle.tables.proofs.HeldLines.{records-long, next-line, no-line}
+use Rattle.erasing.specs.declared.Compared.{Compared}
+use Rattle.erasing.specs.declared.Compared.the-variants.{Differs}
+use Rattle.erasing.specs.Comparing.{afterCompared, beginWith}
+use Rattle.erasing.proofs.LineLaws.{level-kept}
+use Rattle.erasing.proofs.Walking.{Walking, restOf, walk-start, none-left, place-fits, line-there, so-far, walk-on, rest-kept, rest-struck}
 
-module _ (circuit : List (List ℕ)) (size : ℕ) (erasure : List (List ℕ)) (count : ℕ) where
-  -- where the lines differ first, after headers that are the same
-  abbrev pub lineDifference : Answer
-  lineDifference = compared 0 (linesHeld circuit size) (linesHeld erasure count) Done
+-- ---- a circuit's next line
+module _ (circuit : List (List ℕ)) (size at : ℕ) (long : length circuit ≡ 1792) (few : size ≤ 1792) where
+  pub circuit-there : at < size → at < length circuit
+  circuit-there l = omega arith
 
-  -- The loop's invariant: the first i lines are the same, and what is left differs where the lines differ first.
-  pub record Comparing (shorter i : ℕ) : Type 0 where
+  pub circuit-ends : (x : Line) → size ≤ at → false ≡ beginWith (drop at (linesHeld circuit size)) x
+  circuit-ends x l = rw (no-line (linesOf circuit) size (records-long circuit long) few at l)
+
+  pub circuit-goes-on :
+      (x y : Line) (b : Bool) → at < size → y ≡ getD (linesOf circuit) at Free → b ≡ sameLine y x → b ≡ beginWith (drop at (linesHeld circuit size)) x
+  circuit-goes-on x y b l is told = rw (next-line (linesOf circuit) size (records-long circuit long) few at l, ← is) told
+
+pub ruleset next-laws = (needs, circuit-there, circuit-ends, circuit-goes-on)
+
+-- one line of an erasure more
+compared-next :
+    (n : ℕ) (xs ys : List Line) (y : Line) (rules : Answer) →
+    compared n xs (y ∷ ys) rules ≡ cond (beginWith xs y) (compared (suc n) (drop 1 xs) ys rules) (Refused 12 (placeOf n))
+compared-next n [] ys y rules = refl
+compared-next n (x ∷ xs) ys y rules = refl
+
+-- ---- the loop
+module _ (circuit : List (List ℕ)) (size : ℕ) (schedule : List (List ℕ)) (count : ℕ) where
+  -- what a check says where the headers are the same, by what the rules say
+  abbrev pub lineVerdict : Answer → Answer
+  lineVerdict rules = compared 0 (linesHeld circuit size) (erase (linesHeld schedule count)) rules
+
+  -- The loop's invariant: the circuit's first lines are those that erasing keeps of the schedule's first i, and what is left compares as
+  -- the whole does.
+  pub record Comparing (origins : List ℕ) (at i : ℕ) : Type 0 where
+    pub walk : Walking schedule count origins at i
     pub long : length circuit ≡ 1792
     pub few : size ≤ 1792
-    pub other-long : length erasure ≡ 1792
-    pub other-few : count ≤ 1792
-    pub least : shorter ≡ min size count
-    pub most : i ≤ shorter
-    pub left : compared i (drop i (linesHeld circuit size)) (drop i (linesHeld erasure count)) Done ≡ lineDifference
+    pub within : at ≤ size
+    pub left : (rules : Answer) → compared at (drop at (linesHeld circuit size)) (restOf schedule count origins at i) rules ≡ lineVerdict rules
 
-  -- ---- the headers
-  module _ (header other : Header) (r : Bool) (tested : r ≡ sameHeader header other) where
-    pub header-differs : r ≡ false → Refused 12 1 ≡ difference (fileOf (held header circuit size)) (fileOf (held other erasure count))
-    unfolding difference
-    header-differs e = rw (← tested, e)
+  -- the circuit's lines from `at` on against other lines
+  abbrev ahead : ℕ → List Line → Answer → Answer
+  ahead at ys rules = compared at (drop at (linesHeld circuit size)) ys rules
 
-    pub by-lines :
-        r ≡ true → (answer : Answer) → answer ≡ lineDifference →
-        answer ≡ difference (fileOf (held header circuit size)) (fileOf (held other erasure count))
-    unfolding difference
-    by-lines e answer is = rw (← tested, e) is
-
-  -- ---- the lines
   pub compare-start :
-      length circuit ≡ 1792 → size ≤ 1792 → length erasure ≡ 1792 → count ≤ 1792 → (shorter : ℕ) → shorter ≡ min size count → Comparing shorter 0
-  compare-start long few other-long other-few shorter least =
-      record {
-        long = long;
-        few = few;
-        other-long = other-long;
-        other-few = other-few;
-        least = least;
-        most = omega arith;
-        left = refl;
-      }
+      length circuit ≡ 1792 → size ≤ 1792 → length schedule ≡ 1792 → count ≤ 1792 → Comparing (replicate 1792 0) 0 0
+  compare-start long few other-long other-few =
+      record { walk = walk-start schedule count other-long other-few; long = long; few = few; within = omega arith; left = λ rules. refl }
 
-  module _ (shorter i : ℕ) (c : Comparing shorter i) where
-    long : length (linesOf circuit) ≡ 1792
-    long = records-long circuit (c .long)
+  module _ (origins : List ℕ) (at i : ℕ) (c : Comparing origins at i) where
+    -- a line that is struck
+    module _ (inside : i < count) (x : Line) (x-is : x ≡ getD (linesOf schedule) i Free) (b : Bool) (told : b ≡ isStruck (getD (linesOf schedule) i Free)) where
+      pub struck-passed :
+          b ≡ true → (o : ℕ) → o ≡ getD (take i origins) (firstOperand x) at → (origins′ : List ℕ) (at′ : ℕ) → origins′ ≡ set origins i o →
+          at′ ≡ at → Comparing origins′ at′ (i + 1)
+      struck-passed e o is origins′ at′ q n =
+          rw (q, n)
+          (record {
+            walk = walk-on schedule count origins at i (c .walk) inside o at (omega (arith, c .walk .fewer));
+            long = c .long;
+            few = c .few;
+            within = c .within;
+            left = λ rules.
+                ap (λ (l : List Line). ahead at l rules)
+                (sym (rest-struck schedule count origins at i (c .walk) inside x x-is b told e o is))
+                ∙ c .left rules;
+          })
 
-    other-long : length (linesOf erasure) ≡ 1792
-    other-long = records-long erasure (c .other-long)
+      -- a line that stays
+      module _
+          (e : b ≡ false) (y : Line) (is : y ≡ renumbered (take i origins) at x) (r : Bool)
+          (tested : r ≡ beginWith (drop at (linesHeld circuit size)) y) where
+        next : (rules : Answer) →
+            cond r (compared (suc at) (drop 1 (drop at (linesHeld circuit size))) (restOf schedule count (set origins i at) (at + 1) (i + 1)) rules) (Refused 12 (placeOf at))
+            ≡ lineVerdict rules
+        next rules =
+            rw (tested, is)
+            (sym (compared-next at (drop at (linesHeld circuit size)) (restOf schedule count (set origins i at) (at + 1) (i + 1)) (renumbered (take i origins) at x) rules)
+            ∙ ap (λ (l : List Line). ahead at l rules) (sym (rest-kept schedule count origins at i (c .walk) inside x x-is b told e))
+            ∙ c .left rules)
 
-    module _ (inside : i < shorter) where
-      pub line-there : i < length circuit
-      line-there = omega (arith, c .least, c .long, c .few)
+        pub line-differs : r ≡ false → (answer : Compared) → answer ≡ Differs (placeOf at) → (rules : Answer) → afterCompared answer rules ≡ lineVerdict rules
+        line-differs z answer a rules = rw a (rw z at (next rules))
 
-      pub other-there : i < length erasure
-      other-there = omega (arith, c .least, c .other-long, c .other-few)
+        -- then the circuit has a line there
+        inside-circuit : r ≡ true → at < size
+        inside-circuit z = ⊎-elim (λ l. l) (λ l. absurd (true≢false (sym z ∙ tested ∙ sym (circuit-ends circuit size at (c .long) (c .few) y l)))) (below-or-not at size)
 
-      module _ (r : Bool) (tested : r ≡ sameLine (getD (linesOf circuit) i Free) (getD (linesOf erasure) i Free)) where
-        step :
-            cond r (compared (i + 1) (drop (i + 1) (linesHeld circuit size)) (drop (i + 1) (linesHeld erasure count)) Done) (Refused 12 (placeOf i))
-            ≡ lineDifference
-        step =
-            rw (
-              next-line (linesOf circuit) size long (c .few) i (omega (arith, c .least)),
-              next-line (linesOf erasure) count other-long (c .other-few) i (omega (arith, c .least)),
-              ← add-one i,
-              ← tested,
-            )
-            at (c .left)
-
-        pub line-differs : r ≡ false → (answer : Answer) → answer ≡ Refused 12 (placeOf i) → answer ≡ lineDifference
-        line-differs e answer is = is ∙ (rw e at step)
-
-        pub lines-agree : r ≡ true → Comparing shorter (i + 1)
-        lines-agree e =
-            record {
+        pub line-agrees :
+            r ≡ true → (origins′ : List ℕ) (at′ : ℕ) → origins′ ≡ set origins i at → at′ ≡ at + 1 → Comparing origins′ at′ (i + 1)
+        line-agrees z origins′ at′ q n =
+            rw (q, n)
+            (record {
+              walk = walk-on schedule count origins at i (c .walk) inside at (at + 1) (omega (arith, c .walk .fewer));
               long = c .long;
               few = c .few;
-              other-long = c .other-long;
-              other-few = c .other-few;
-              least = c .least;
-              most = omega arith;
-              left = rw e at step;
-            }
+              within = omega (arith, inside-circuit z);
+              left = λ rules. rw (z, drop-drop 1 at (linesHeld circuit size), ← add-one at) at (next rules);
+            })
 
-    module _ (end : shorter ≤ i) where
-      pub all-agree : size ≡ count → Done ≡ lineDifference
-      all-agree e =
-          rw (no-line (linesOf circuit) size long (c .few) i (omega (arith, c .least)), no-line (linesOf erasure) count other-long (c .other-few) i (omega (arith, c .least)))
-          at (c .left)
+    -- every line is read
+    module _ (end : count ≤ i) where
+      rest : (rules : Answer) → compared at (drop at (linesHeld circuit size)) [] rules ≡ lineVerdict rules
+      rest rules = ap (λ (l : List Line). ahead at l rules) (sym (none-left schedule count origins at i (c .walk) end)) ∙ c .left rules
 
-      pub length-differs : (size ≡ count → ⊥) → (answer : Answer) → answer ≡ Refused 12 (placeOf i) → answer ≡ lineDifference
-      length-differs f answer is = is ∙ ⊎-elim shorter-circuit shorter-erasure (below-or-not size count)
-        where
-          shorter-circuit : size < count → Refused 12 (placeOf i) ≡ lineDifference
-          shorter-circuit l =
-              rw (
-                no-line (linesOf circuit) size long (c .few) i (omega (arith, c .least)),
-                next-line (linesOf erasure) count other-long (c .other-few) i (omega (arith, c .least, c .most)),
-              )
-              at (c .left)
+      pub all-agree : at ≡ size → (rules : Answer) → rules ≡ lineVerdict rules
+      all-agree e rules = rw (no-line (linesOf circuit) size (records-long circuit (c .long)) (c .few) at (omega arith)) at (rest rules)
 
-          shorter-erasure : count ≤ size → Refused 12 (placeOf i) ≡ lineDifference
-          shorter-erasure l =
-              let less : count < size = omega (arith, f) in
-              rw (
-                next-line (linesOf circuit) size long (c .few) i (omega (arith, c .least, c .most)),
-                no-line (linesOf erasure) count other-long (c .other-few) i (omega (arith, c .least)),
-              )
-              at (c .left)
+      pub longer-circuit : (at ≡ size → ⊥) → (answer : Compared) → answer ≡ Differs (placeOf at) → (rules : Answer) → afterCompared answer rules ≡ lineVerdict rules
+      longer-circuit f answer a rules =
+          let l : at < size = omega (arith, f, c .within) in
+          rw a (rw (next-line (linesOf circuit) size (records-long circuit (c .long)) (c .few) at l) at (rest rules))
 
-pub ruleset compare-laws = (needs, not-true, not-false, header-differs, by-lines, compare-start, line-there, other-there, line-differs, lines-agree, all-agree, length-differs)
+-- ---- the headers
+module _ (header other : Header) (circuit : List (List ℕ)) (size : ℕ) (schedule : List (List ℕ)) (count : ℕ) (r : Bool) (tested : r ≡ sameHeader header other) where
+  abbrev checked : Answer
+  checked = check (fileOf (held header circuit size)) (fileOf (held other schedule count))
+
+  pub header-differs : r ≡ false → Refused 12 1 ≡ checked
+  header-differs e = rw (← tested, e)
+
+  pub by-lines :
+      r ≡ true → (answer : Compared) →
+      afterCompared answer (rulesAnswer other (linesHeld schedule count)) ≡ lineVerdict circuit size schedule count (rulesAnswer other (linesHeld schedule count)) →
+      afterCompared answer (rulesAnswer other (linesHeld schedule count)) ≡ checked
+  by-lines e answer is = rw (← tested, e) is
+
+pub ruleset compare-laws = (
+  needs,
+  not-true,
+  not-false,
+  level-kept,
+  place-fits,
+  line-there,
+  so-far,
+  compare-start,
+  header-differs,
+  by-lines,
+  line-differs,
+  all-agree,
+  longer-circuit,
+)

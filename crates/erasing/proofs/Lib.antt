@@ -1,7 +1,6 @@
 pub mod LineLaws
 pub mod Renumbering
+pub mod Walking
 pub mod Filling
-pub mod Sameness
-pub mod SameRecords
+pub mod Headers
 pub mod Comparing
-pub mod Checking

@@ -1,20 +1,25 @@
--- One line: its fate, its operands and its numbers, by its word. Assumes nothing.
-use Prim.Native.Nat.{ℕ}
-use mathlib.Core.Path.{_≡_, refl}
-use borrow.Author.Needs.{needs}
+-- One line with other operands, and its fate, by its word. Assumes nothing.
+use Prim.Native.Nat.{ℕ, _≤_}
+use mathlib.Core.Path.{_≡_, refl, sym, ap, _∙_}
+use mathlib.Core.Bool.{Bool, true, false, cond}
+use mathlib.Core.List.{List}
+use lib.ListN.{getD}
 use Rattle.model.specs.declared.Line.{Line}
 use Rattle.model.specs.declared.Line.the-variants.{In, Const, Neg, Rot, Add, Mul, Out, Enc, Rs, Ms, Us, Free}
-use Rattle.model.specs.Services.{fateOf, renamed}
+use Rattle.model.specs.Services.{kept, madeFrom, fateOf, renamed, renumbered}
+use Rattle.tables.specs.Records.{levelOf, isStruck}
 use Rattle.tables.specs.Operands.{firstOperand, secondOperand, withOperands}
-use Rattle.erasing.specs.Comparing.{numbersOf}
+use Rattle.tables.proofs.Operands as Operands
 
--- ---- the fate and the numbers of a line whose word is known
-module _ (x y : Line) (e : x ≡ y) where
-  pub fate-is : fateOf y ≡ fateOf x
-  fate-is = rw e
+-- ---- the fate of a line: a struck one was made from its first operand
+module _ (x : Line) where
+  pub line-kept : isStruck x ≡ false → fateOf x ≡ kept
+  unfolding firstOperand
+  line-kept e = ap (λ (b : Bool). cond b (madeFrom (firstOperand x)) kept) e
 
-  pub numbers-are : numbersOf y ≡ numbersOf x
-  numbers-are = rw e
+  pub line-struck : isStruck x ≡ true → fateOf x ≡ madeFrom (firstOperand x)
+  unfolding firstOperand
+  line-struck e = ap (λ (b : Bool). cond b (madeFrom (firstOperand x)) kept) e
 
 -- ---- other operands
 -- a line is renamed by its operands' new numbers
@@ -33,4 +38,7 @@ renamed-is f (Ms a c) = refl
 renamed-is f (Us a b) = refl
 renamed-is f Free = refl
 
-pub ruleset line-laws = (needs, fate-is, numbers-are)
+-- a line keeps its level where its operands are counted anew
+pub level-kept : (origins : List ℕ) (count : ℕ) (x y : Line) → levelOf x ≤ 65535 → y ≡ renumbered origins count x → levelOf y ≤ 65535
+level-kept origins count x y few e =
+    let f : ℕ → ℕ = λ o. getD origins o count in Operands.level-kept x y (f (firstOperand x)) (f (secondOperand x)) few (e ∙ sym (renamed-is f x))

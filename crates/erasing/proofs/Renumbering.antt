@@ -21,10 +21,13 @@ origin-past origins a d h = sym (List·getD-eq-default origins d h)
 
 -- ---- a line's operands
 module _ (origins : List ℕ) (count : ℕ) (x : Line) where
+  pub made-from : (a o : ℕ) → a ≡ firstOperand x → o ≡ getD origins a count → o ≡ getD origins (firstOperand x) count
+  made-from a o first is = rw (← first) is
+
   pub both-renumbered :
       (a b m n : ℕ) (y : Line) → a ≡ firstOperand x → m ≡ getD origins a count → b ≡ secondOperand x → n ≡ getD origins b count →
       y ≡ withOperands x m n → y ≡ renumbered origins count x
   both-renumbered a b m n y first m-is second n-is is =
       is ∙ rw (m-is, n-is, first, second) (renamed-is (λ o. getD origins o count) x)
 
-pub ruleset renumbering-laws = (needs, origin-held, origin-past, both-renumbered)
+pub ruleset renumbering-laws = (needs, origin-held, origin-past, made-from, both-renumbered)

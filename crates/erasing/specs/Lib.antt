@@ -1,2 +1,1 @@
-pub mod Renumbering
 pub mod Comparing

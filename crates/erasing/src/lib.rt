@@ -1,49 +1,17 @@
-// Erases the table of a schedule to that of its circuit, and says where two tables differ first.
-use model::Answer;
+// Erases the table of a schedule to that of its circuit, and compares a circuit with what a schedule erases to.
 use model::Header;
 use model::Line;
+use tables::Record;
 ghost use mathlib.Core.Path.{_≡_};
-ghost use Prim.Native.Nat.{_≤_, _<_, min};
-ghost use lib.Dec.{T};
-ghost use lib.ListN.{length, getD};
-ghost use Rattle.model.specs.declared.Line.the-variants.{Free};
+ghost use Prim.Native.Nat.{_≤_};
+ghost use lib.ListN.{length, getD, drop};
 ghost use Rattle.rows.specs.Rows.{placeOf};
-ghost use Rattle.model.specs.Services.{fateOf, renumbered, erase};
-ghost use Rattle.model.specs.Refused.{sameLine, sameHeader};
+ghost use Rattle.model.specs.Services.{renumbered, erase};
+ghost use Rattle.model.specs.Answers.{sameHeader, rulesAnswer, check};
 ghost use Rattle.text.specs.Tables.{fileOf};
-ghost use Rattle.tables.specs.Records.{lineOf, linesOf, linesHeld, freeRecords, held};
-ghost use Rattle.erasing.specs.Renumbering.{meaning};
-ghost use Rattle.erasing.specs.Comparing.{numbersOf, difference};
-
-// A line stays, or is struck and was made from the line that it names.
-pub enum Fate {
-    Kept,
-    MadeFrom(u16),
-}
-
-// What becomes of a line.
-fn fate_of(line: Line) -> Fate
-    ensures { λ r. ⌜ meaning r ≡ fateOf line ⌝ }
-{
-    match line {
-        Line::In => Fate::Kept,
-        Line::Const(_) => Fate::Kept,
-        Line::Neg(_) => Fate::Kept,
-        Line::Rot(_, _) => Fate::Kept,
-        Line::Add(_, _) => Fate::Kept,
-        Line::Mul(_, _) => Fate::Kept,
-        Line::Out(_) => Fate::Kept,
-        Line::Enc {
-            of,
-            scale: _,
-            level: _,
-        } => Fate::MadeFrom(of),
-        Line::Rs(of, _) => Fate::MadeFrom(of),
-        Line::Ms(of, _) => Fate::MadeFrom(of),
-        Line::Us(of, _) => Fate::MadeFrom(of),
-        Line::Free => Fate::Kept,
-    }
-}
+ghost use Rattle.tables.specs.Operands.{firstOperand};
+ghost use Rattle.tables.specs.Records.{levelOf, linesHeld, freeRecords, held};
+ghost use Rattle.erasing.specs.Comparing.{afterCompared, beginWith};
 
 // The kept line that a line so far is or was made from, and the count of kept lines where there is no such line.
 fn origin(origins: &[u16], of: u16, count: u16) -> u16
@@ -54,6 +22,13 @@ fn origin(origins: &[u16], of: u16, count: u16) -> u16
         return origins[at];
     }
     count
+}
+
+// The kept line that a struck line was made from.
+fn struck_origin(origins: &[u16], count: u16, line: Line) -> u16
+    ensures { λ r. ⌜ r ≡ getD (now (origins .entry)) (firstOperand line) count ⌝ }
+{
+    origin(origins, tables::first_operand(line), count)
 }
 
 // A kept line, its operands counted anew.
@@ -68,7 +43,7 @@ fn renumber(origins: &[u16], count: u16, line: Line) -> Line
 }
 
 // The lines that erasing keeps, renumbered, into records that are free, and how many they are.
-pub fn erase_table(schedule: &[[u16; 4]], count: usize, erasure: &mut [[u16; 4]]) -> usize
+pub fn erase_table(schedule: &[Record], count: usize, erasure: &mut [Record]) -> usize
     requires { ⌜ length (now schedule) ≡ 1792 ⌝ }
     requires { ⌜ count ≤ 1792 ⌝ }
     requires { ⌜ now erasure ≡ freeRecords ⌝ }
@@ -81,16 +56,13 @@ pub fn erase_table(schedule: &[[u16; 4]], count: usize, erasure: &mut [[u16; 4]]
     while i < count {
         let line = tables::line_at(schedule, i);
         let kept = at as u16;
-        match fate_of(line) {
-            Fate::Kept => {
-                let renumbered = renumber(&origins[..i], kept, line);
-                erasure[at] = tables::record_of(renumbered);
-                at += 1;
-                origins[i] = kept;
-            }
-            Fate::MadeFrom(of) => {
-                origins[i] = origin(&origins[..i], of, kept);
-            }
+        if tables::struck_at(schedule, i) {
+            origins[i] = struck_origin(&origins[..i], kept, line);
+        } else {
+            let renumbered = renumber(&origins[..i], kept, line);
+            erasure[at] = tables::record_of(renumbered);
+            origins[i] = kept;
+            at += 1;
         }
         i += 1;
     }
@@ -98,82 +70,10 @@ pub fn erase_table(schedule: &[[u16; 4]], count: usize, erasure: &mut [[u16; 4]]
 }
 
 // ---- comparing
-// A line as numbers: its word's, then three for its fields, then a rotation's amount; 0 where it has none.
-pub struct Numbers(pub u16, pub u16, pub u16, pub u32, pub i16);
-
-fn numbers_of(line: Line) -> Numbers
-    ensures { λ r. ⌜ r ≡ numbersOf line ⌝ }
-{
-    match line {
-        Line::In => Numbers(0, 0, 0, 0, 0),
-        Line::Const(k) => Numbers(1, k, 0, 0, 0),
-        Line::Neg(a) => Numbers(2, a, 0, 0, 0),
-        Line::Rot(a, amount) => Numbers(3, a, 0, 0, amount),
-        Line::Add(a, b) => Numbers(4, a, b, 0, 0),
-        Line::Mul(a, b) => Numbers(5, a, b, 0, 0),
-        Line::Out(a) => Numbers(6, a, 0, 0, 0),
-        Line::Enc { of, scale, level } => Numbers(7, of, scale, level, 0),
-        Line::Rs(a, levels) => Numbers(8, a, levels, 0, 0),
-        Line::Ms(a, levels) => Numbers(9, a, levels, 0, 0),
-        Line::Us(a, bits) => Numbers(10, a, bits, 0, 0),
-        Line::Free => Numbers(11, 0, 0, 0, 0),
-    }
-}
-
-// Whether the lines with these numbers are the same.
-fn same_numbers(m: Numbers, n: Numbers) -> bool
-    ensures { λ r. ⌜ ((x y : Line) → m ≡ numbersOf x → n ≡ numbersOf y → r ≡ sameLine x y) ⌝ }
-{
-    if m.0 != n.0 {
-        return false;
-    }
-    if m.1 != n.1 {
-        return false;
-    }
-    if m.2 != n.2 {
-        return false;
-    }
-    if m.3 != n.3 {
-        return false;
-    }
-    m.4 == n.4
-}
-
-// Whether two lines are the same.
-fn same_line(x: Line, y: Line) -> bool
-    ensures { λ r. ⌜ r ≡ sameLine x y ⌝ }
-{
-    same_numbers(numbers_of(x), numbers_of(y))
-}
-
-// Whether two records are the same, number by number: then their lines are.
-fn same_record(r: [u16; 4], s: [u16; 4]) -> bool
-    ensures { λ b. ⌜ (T b → lineOf r ≡ lineOf s) ⌝ }
-{
-    if r[0] != s[0] {
-        return false;
-    }
-    if r[1] != s[1] {
-        return false;
-    }
-    if r[2] != s[2] {
-        return false;
-    }
-    r[3] == s[3]
-}
-
-// Whether line i is the same in both. The records are asked first: lines are read only where these differ.
-fn same_at<'a>(circuit: &'a [[u16; 4]], erasure: &'a [[u16; 4]], i: usize) -> bool
-    requires { ⌜ i < length (now circuit) ⌝ }
-    requires { ⌜ i < length (now erasure) ⌝ }
-    ensures { λ r. ⌜ r ≡ sameLine (getD (linesOf (now (circuit .entry))) i Free) (getD (linesOf (now (erasure .entry))) i Free) ⌝ }
-{
-    if same_record(circuit[i], erasure[i]) {
-        return true;
-    }
-    let line = tables::line_at(circuit, i);
-    let other_line = tables::line_at(erasure, i);
-    same_line(line, other_line)
+// How a circuit compares with what a schedule erases to: the same, or the first place where they differ.
+pub enum Compared {
+    Same,
+    Differs { place: u32 },
 }
 
 // Whether two headers are the same.
@@ -189,58 +89,68 @@ fn same_header(one: Header, other: Header) -> bool
     one.top == other.top
 }
 
-// The smaller of two numbers.
-fn smaller(m: usize, n: usize) -> usize
-    ensures { λ r. ⌜ r ≡ min m n ⌝ }
-{
-    if m < n {
-        return m;
-    }
-    n
-}
-
-// Line i differs, or is one past the shorter file.
-fn differs_at(i: usize) -> Answer
-    requires { ⌜ i ≤ 1792 ⌝ }
-    ensures { λ r. ⌜ r ≡ Answer.Refused 12 (placeOf i) ⌝ }
-{
-    Answer::Refused {
-        number: 12,
-        place: (i as u32) + 2,
-    }
-}
-
-// Where two files differ first: 12 and the place, or Done.
-pub fn compare<'a>(
-    header: Header,
-    circuit: &'a [[u16; 4]],
-    size: usize,
-    other: Header,
-    erasure: &'a [[u16; 4]],
-    count: usize,
-) -> Answer
+// Whether a circuit's lines go on with this line at `at`.
+fn goes_on_with(circuit: &[Record], size: usize, at: usize, line: Line) -> bool
     requires { ⌜ length (now circuit) ≡ 1792 ⌝ }
     requires { ⌜ size ≤ 1792 ⌝ }
-    requires { ⌜ length (now erasure) ≡ 1792 ⌝ }
+    requires { ⌜ levelOf line ≤ 65535 ⌝ }
+    ensures { λ r. ⌜ r ≡ beginWith (drop at (linesHeld (now (circuit .entry)) size)) line ⌝ }
+{
+    if size <= at {
+        return false;
+    }
+    let expected = tables::line_at(circuit, at);
+    tables::same_line(expected, line)
+}
+
+// Line `at` differs, or is one past the shorter file.
+fn differs_at(at: usize) -> Compared
+    requires { ⌜ at ≤ 1792 ⌝ }
+    ensures { λ r. ⌜ r ≡ Compared.Differs (placeOf at) ⌝ }
+{
+    Compared::Differs {
+        place: (at as u32) + 2,
+    }
+}
+
+// A circuit against the lines that erasing keeps of a schedule, each as soon as it is renumbered.
+pub fn compare_erasure<'a>(
+    header: Header,
+    circuit: &'a [Record],
+    size: usize,
+    other: Header,
+    schedule: &'a [Record],
+    count: usize,
+) -> Compared
+    requires { ⌜ length (now circuit) ≡ 1792 ⌝ }
+    requires { ⌜ size ≤ 1792 ⌝ }
+    requires { ⌜ length (now schedule) ≡ 1792 ⌝ }
     requires { ⌜ count ≤ 1792 ⌝ }
-    ensures { λ r. ⌜ r ≡ difference (fileOf (held header (now (circuit .entry)) size)) (fileOf (held other (now (erasure .entry)) count)) ⌝ }
+    ensures { λ r. ⌜ afterCompared r (rulesAnswer other (linesHeld (now (schedule .entry)) count)) ≡ check (fileOf (held header (now (circuit .entry)) size)) (fileOf (held other (now (schedule .entry)) count)) ⌝ }
 {
     if !same_header(header, other) {
-        return Answer::Refused {
-            number: 12,
-            place: 1,
-        };
+        return Compared::Differs { place: 1 };
     }
-    let shorter = smaller(size, count);
+    let mut origins = [0u16; 1792];
+    let mut at: usize = 0;
     let mut i: usize = 0;
-    while i < shorter {
-        if !same_at(circuit, erasure, i) {
-            return differs_at(i);
+    while i < count {
+        let line = tables::line_at(schedule, i);
+        let kept = at as u16;
+        if tables::struck_at(schedule, i) {
+            origins[i] = struck_origin(&origins[..i], kept, line);
+        } else {
+            let renumbered = renumber(&origins[..i], kept, line);
+            if !goes_on_with(circuit, size, at, renumbered) {
+                return differs_at(at);
+            }
+            origins[i] = kept;
+            at += 1;
         }
         i += 1;
     }
-    if size == count {
-        return Answer::Done;
+    if at == size {
+        return Compared::Same;
     }
-    differs_at(i)
+    differs_at(at)
 }

@@ -1,25 +1,26 @@
 -- The number of a row of digits, and the number that stands at a place: one law for each return of the code, its premises the tests on the way.
 -- Assumes nothing.
 use Prim.Native.Nat.{ℕ, zero, suc, _+_, _-_, _^_, _≤_, _<_}
+use native.Mathlib.Decide.{decLt}
 use native.Mathlib.Nat.{pow-le-pow-right}
 use native.Mathlib.Numerals.{add-one}
 use native.Mathlib.Omega.{arith}
 use mathlib.Core.Bool.{Bool, true, false}
-use mathlib.Core.Path.{_≡_, refl, sym, ap, _∙_}
+use mathlib.Core.Path.{_≡_, refl, sym, ap, _∙_, subst}
 use mathlib.Core.List.{[], _∷_}
 use borrow.Author.Needs.{needs}
 use borrow.Author.Tests.{eqb-true, eqb-false, ne-eqb}
 use lib.Dec.{T, lit<}
 use lib.IntN.{ℤ, pos, negsuc, natAbs, negℤ, _-ℤ_, +ℤ-idl}
 use lib.ListN.{length, getD, take, drop, length-drop}
-use lib.Seq.{drop-drop}
+use lib.Seq.{length-take-le, drop-drop}
 use mir.Syntax.{w64}
 use mir.Val.{SFits, toZ, ofZ}
 use mir.ValLaws.{toZ-pos, toZ-ofZ}
 use Rattle.fields.specs.Pieces.{Bytes}
 use Rattle.fields.specs.Numbers.{digitsOf, numberOf, afterMinus, withoutMinus, amountOf}
 use Rattle.fields.specs.Digits.{digitsIn, amountIn, allDigits, allAmount, DigitsLeft}
-use Rattle.fields.specs.Places.{begins, numberTo, amountTo, numberAt, amountAt, fieldAt}
+use Rattle.fields.specs.Places.{begins, EndFound, numberTo, amountTo, numberAt, amountAt, fieldAt}
 use Rattle.fields.specs.declared.Field.{Field}
 use Rattle.fields.specs.declared.Field.the-variants.{Number, NoNumber}
 use Rattle.fields.specs.declared.Amount.{Amount}
@@ -28,7 +29,7 @@ use Rattle.fields.specs.declared.FieldAt.{FieldAt}
 use Rattle.fields.specs.declared.FieldAt.the-variants.{Whole, NoWhole}
 use Rattle.fields.proofs.PieceLaws.{rest-of}
 use Rattle.fields.proofs.NumberLaws.{number-long, number-zero, number-digits, number-below, amount-long, amount-minus, amount-plain, amount-below, minus-zero, minus-more}
-use Rattle.fields.proofs.SpanLaws.{digits-in-all, amount-in-minus, amount-in-plain, amount-in-all}
+use Rattle.fields.proofs.SpanLaws.{digits-in-within, digits-in-all, amount-in-minus, amount-in-plain, amount-in-within, amount-in-all}
 
 -- ---- the number that digits are
 pub number-none : (f : Bytes) → length f ≡ 0 → NoNumber ≡ numberOf f
@@ -173,27 +174,56 @@ module _ (s : Bytes) (at : ℕ) (t : Bool) (q : t ≡ begins 45 (drop at s)) whe
   pub minus-there : t ≡ true → at + 1 ≤ length s
   minus-there h = omega (arith, length-drop at s, ap length (begins-is 45 (drop at s) (sym q ∙ h)))
 
-  pub minus-passed : (r : ℕ) → t ≡ true → r ≡ at + 1 + digitsIn (drop (at + 1) s) → r ≡ at + amountIn (drop at s)
-  minus-passed r h e = omega (arith, in-minus (drop at s) (sym q ∙ h), ap digitsIn (drop-drop 1 at s))
+  pub minus-passed : (r : ℕ) → t ≡ true → EndFound (at + 1) (digitsIn (drop (at + 1) s)) r → EndFound at (amountIn (drop at s)) r
+  minus-passed r h e =
+      let all : amountIn (drop at s) ≡ suc (digitsIn (drop (at + 1) s)) = in-minus (drop at s) (sym q ∙ h) ∙ ap (λ (u : Bytes). suc (digitsIn u)) (drop-drop 1 at s) in
+      record {
+        from = omega (arith, e .from);
+        most = omega (arith, e .most, all);
+        whole = λ short. let end = e .whole (omega arith) in omega (arith, end, all);
+      }
 
-  pub no-minus : (r : ℕ) → t ≡ false → r ≡ at + digitsIn (drop at s) → r ≡ at + amountIn (drop at s)
-  no-minus r h e = e ∙ ap (λ (n : ℕ). at + n) (sym (in-plain (drop at s) (sym q ∙ h)))
+  pub no-minus : (r : ℕ) → t ≡ false → EndFound at (digitsIn (drop at s)) r → EndFound at (amountIn (drop at s)) r
+  no-minus r h e = subst (λ (n : ℕ). EndFound at n r) (sym (in-plain (drop at s) (sym q ∙ h))) e
 
 pub ruleset end-laws = (needs, minus-there, minus-passed, no-minus)
 
 -- ---- the number at a place: the bytes from there to the end that was found
-module _ (s : Bytes) (at k end : ℕ) (e : end ≡ at + k) where
-  pub cut-at : take (end - at) (drop at s) ≡ take k (drop at s)
-  cut-at = let same : end - at ≡ k = omega arith in rw same
+-- the whole of them, or more than any field has
+data Cut (at bytes end : ℕ) : Type 0 where
+  all : end ≡ at + bytes → Cut at bytes end
+  many : at + 11 < end → Cut at bytes end
+
+cut : {at bytes end : ℕ} → EndFound at bytes end → Cut at bytes end
+cut {at} {bytes} {end} found = elim (decLt (at + 11) end) [ yes l ↦ many l | no l ↦ all (found .whole (omega arith)) ]
+
+module _ (s : Bytes) (at end : ℕ) (bytes : ℕ) (inside : bytes ≤ length (drop at s)) (found : EndFound at bytes end) where
+  few : end - at ≤ bytes
+  few = omega (arith, found .from, found .most)
+
+  long-cut : at + 11 < end → 11 < length (take (end - at) (drop at s))
+  long-cut l = rw (length-take-le (end - at) (drop at s) (omega (arith, few))) (omega arith)
+
+  long-whole : at + 11 < end → 11 < length (take bytes (drop at s))
+  long-whole l = rw (length-take-le bytes (drop at s) inside) (omega (arith, found .most))
+
+  whole-cut : end ≡ at + bytes → take (end - at) (drop at s) ≡ take bytes (drop at s)
+  whole-cut e = let same : end - at ≡ bytes = omega arith in rw same
 
 module _ (s : Bytes) (at end : ℕ) where
-  module _ (found : end ≡ at + digitsIn (drop at s)) where
+  module _ (found : EndFound at (digitsIn (drop at s)) end) where
     pub digits-cut : T (allDigits (take (end - at) (drop at s)))
-    digits-cut = rw (cut-at s at (digitsIn (drop at s)) end found) (digits-in-all (drop at s))
+    digits-cut = digits-in-all (drop at s) (end - at) (few s at end (digitsIn (drop at s)) (digits-in-within (drop at s)) found)
 
     module _ (r : Field) (q : r ≡ numberOf (take (end - at) (drop at s))) where
       number-is : numberOf (take (digitsIn (drop at s)) (drop at s)) ≡ r
-      number-is = ap numberOf (sym (cut-at s at (digitsIn (drop at s)) end found)) ∙ sym q
+      number-is = go (cut found)
+        where
+          go : Cut at (digitsIn (drop at s)) end → numberOf (take (digitsIn (drop at s)) (drop at s)) ≡ r
+          go (all e) = ap numberOf (sym (whole-cut s at end (digitsIn (drop at s)) (digits-in-within (drop at s)) found e)) ∙ sym q
+          go (many l) =
+              number-long (take (digitsIn (drop at s)) (drop at s)) (long-whole s at end (digitsIn (drop at s)) (digits-in-within (drop at s)) found l)
+              ∙ sym (q ∙ number-long (take (end - at) (drop at s)) (long-cut s at end (digitsIn (drop at s)) (digits-in-within (drop at s)) found l))
 
       pub no-number-at : r ≡ NoNumber → NoWhole ≡ numberAt s at
       unfolding numberAt
@@ -201,15 +231,27 @@ module _ (s : Bytes) (at end : ℕ) where
 
       pub number-there : (n : ℕ) → r ≡ Number n → Whole (toZ w64 n) end ≡ numberAt s at
       unfolding numberAt
-      number-there n e = rw (number-is, e, number-held (take (end - at) (drop at s)) r n q e, found)
+      number-there n e = rw (number-is, e, number-held (take (end - at) (drop at s)) r n q e, go (cut found))
+        where
+          go : Cut at (digitsIn (drop at s)) end → end ≡ at + digitsIn (drop at s)
+          go (all w) = w
+          go (many l) =
+              let nothing = number-long (take (end - at) (drop at s)) (long-cut s at end (digitsIn (drop at s)) (digits-in-within (drop at s)) found l) in
+              absurd (let z : _≡_ {A = ℕ} 0 1 = cc in omega arith)
 
-  module _ (found : end ≡ at + amountIn (drop at s)) where
+  module _ (found : EndFound at (amountIn (drop at s)) end) where
     pub amount-cut : T (allAmount (take (end - at) (drop at s)))
-    amount-cut = rw (cut-at s at (amountIn (drop at s)) end found) (amount-in-all (drop at s))
+    amount-cut = amount-in-all (drop at s) (end - at) (few s at end (amountIn (drop at s)) (amount-in-within (drop at s)) found)
 
     module _ (r : Amount) (q : r ≡ amountOf (take (end - at) (drop at s))) where
       amount-is : amountOf (take (amountIn (drop at s)) (drop at s)) ≡ r
-      amount-is = ap amountOf (sym (cut-at s at (amountIn (drop at s)) end found)) ∙ sym q
+      amount-is = go (cut found)
+        where
+          go : Cut at (amountIn (drop at s)) end → amountOf (take (amountIn (drop at s)) (drop at s)) ≡ r
+          go (all e) = ap amountOf (sym (whole-cut s at end (amountIn (drop at s)) (amount-in-within (drop at s)) found e)) ∙ sym q
+          go (many l) =
+              amount-long (take (amountIn (drop at s)) (drop at s)) (long-whole s at end (amountIn (drop at s)) (amount-in-within (drop at s)) found l)
+              ∙ sym (q ∙ amount-long (take (end - at) (drop at s)) (long-cut s at end (amountIn (drop at s)) (amount-in-within (drop at s)) found l))
 
       pub no-amount-at : r ≡ NoAmount → NoWhole ≡ amountAt s at
       unfolding amountAt
@@ -217,7 +259,13 @@ module _ (s : Bytes) (at end : ℕ) where
 
       pub amount-there : (z : ℤ) → r ≡ By z → Whole (toZ w64 (ofZ w64 z)) end ≡ amountAt s at
       unfolding amountAt
-      amount-there z e = rw (amount-is, e, amount-held (take (end - at) (drop at s)) z (sym q ∙ e), found)
+      amount-there z e = rw (amount-is, e, amount-held (take (end - at) (drop at s)) z (sym q ∙ e), go (cut found))
+        where
+          go : Cut at (amountIn (drop at s)) end → end ≡ at + amountIn (drop at s)
+          go (all w) = w
+          go (many l) =
+              let nothing = amount-long (take (end - at) (drop at s)) (long-cut s at end (amountIn (drop at s)) (amount-in-within (drop at s)) found l) in
+              absurd (let z : _≡_ {A = ℕ} 0 1 = cc in omega arith)
 
 module _ (s : Bytes) (at : ℕ) (signed : Bool) (r : FieldAt) where
   pub as-amount : signed ≡ true → r ≡ amountAt s at → r ≡ fieldAt signed s at

@@ -1,6 +1,7 @@
 -- How a search for a byte, and one for a byte that is no digit, goes on and what it finds. Assumes nothing.
-use Prim.Native.Nat.{ℕ, suc, _+_, _<_, _≤_}
+use Prim.Native.Nat.{ℕ, suc, _+_, _-_, _<_, _≤_}
 use native.Mathlib.Numerals.{add-one}
+use native.Mathlib.Decide.{decLt}
 use native.Mathlib.Omega.{arith}
 use mathlib.Core.Bool.{false}
 use mathlib.Core.Path.{_≡_}
@@ -10,7 +11,7 @@ use lib.ListN.{length, getD, drop, drop-of-length-le}
 use lib.Seq.{drop-cons}
 use Rattle.fields.specs.Pieces.{Bytes}
 use Rattle.fields.specs.Digits.{digitsIn}
-use Rattle.fields.specs.Places.{begins, NoneBefore, DigitsTo, before}
+use Rattle.fields.specs.Places.{begins, NoneBefore, DigitsTo, LookedTo, EndFound, before}
 use Rattle.fields.proofs.PieceLaws.{before-here, before-other}
 use Rattle.fields.proofs.SpanLaws.{digits-in-low, digits-in-high, digits-in-more}
 
@@ -48,31 +49,44 @@ module _ (x : ℕ) (s : Bytes) (at : ℕ) where
 -- ---- digits
 module _ (s : Bytes) (at : ℕ) where
   pub digits-begin : at ≤ length s → DigitsTo s at at
-  digits-begin h = record { within = h; rest = omega arith }
+  digits-begin h = record { from = omega arith; within = h; rest = omega arith }
 
   module _ (i : ℕ) (p : DigitsTo s at i) where
-    pub digits-low : i < length s → getD s i 0 < 48 → i ≡ at + digitsIn (drop at s)
-    digits-low h l =
-        let none : digitsIn (drop i s) ≡ 0 = rw (drop-cons s i 0 h) (digits-in-low (getD s i 0) (drop (suc i) s) l) in
-        omega arith
+    -- no digit stands here
+    stops : digitsIn (drop i s) ≡ 0 → EndFound at (digitsIn (drop at s)) i
+    stops none = record { from = p .from; most = omega arith; whole = λ short. omega arith }
 
-    pub digits-high : (most : ℕ) → i < length s → most < getD s i 0 → 57 ≤ most → i ≡ at + digitsIn (drop at s)
-    digits-high most h l above =
-        let none : digitsIn (drop i s) ≡ 0 = rw (drop-cons s i 0 h) (digits-in-high (getD s i 0) (drop (suc i) s) (omega arith)) in
-        omega arith
+    pub digits-low : i < length s → getD s i 0 < 48 → EndFound at (digitsIn (drop at s)) i
+    digits-low h l = stops (rw (drop-cons s i 0 h) (digits-in-low (getD s i 0) (drop (suc i) s) l))
+
+    pub digits-high : (most : ℕ) → i < length s → most < getD s i 0 → 57 ≤ most → EndFound at (digitsIn (drop at s)) i
+    digits-high most h l above = stops (rw (drop-cons s i 0 h) (digits-in-high (getD s i 0) (drop (suc i) s) (omega arith)))
 
     pub digits-pass : i < length s → 48 ≤ getD s i 0 → getD s i 0 ≤ 57 → DigitsTo s at (i + 1)
     digits-pass h low high =
         let more : digitsIn (drop i s) ≡ suc (digitsIn (drop (suc i) s)) =
         rw (drop-cons s i 0 h) (digits-in-more (getD s i 0) (drop (suc i) s) (record { low = low; high = high })) in
-        rw (add-one i) (record { within = omega arith; rest = omega arith })
+        let before = p .from in
+        rw (add-one i) (record { from = omega arith; within = omega arith; rest = omega arith })
 
-    pub digits-last : length s ≤ i → i ≡ at + digitsIn (drop at s)
+    -- the text's end, or more digits than any number has
+    pub digits-last : (limit : ℕ) → LookedTo s at limit → limit ≤ i → EndFound at (digitsIn (drop at s)) i
     unfolding digitsIn
-    digits-last h =
-        let none : digitsIn (drop i s) ≡ 0 = rw (drop-of-length-le s h) in
-        omega arith
+    digits-last limit l h =
+        elim (decLt i (length s)) [
+          | yes u ↦ record { from = p .from; most = omega (arith, p .rest); whole = λ short. absurd (omega (arith, l .far (omega arith))) }
+          | no u ↦ stops (let past : length s ≤ i = omega arith in rw (drop-of-length-le s past))
+        ]
+
+    pub digits-within : (limit : ℕ) → LookedTo s at limit → i < limit → i < length s
+    digits-within limit l h = omega (arith, l .within)
+
+  pub looked-to-end : length s - at < 12 → at ≤ length s → LookedTo s at (length s)
+  looked-to-end u h = record { from = h; within = omega arith; far = λ v. absurd (omega arith) }
+
+  pub looked-far : 12 ≤ length s - at → at ≤ length s → LookedTo s at (at + 12)
+  looked-far u h = record { from = omega arith; within = omega arith; far = λ v. omega arith }
 
 pub ruleset byte-laws = (needs, begin, found, pass, nowhere, is-there, is-past)
 
-pub ruleset digits-laws = (needs, digits-begin, digits-low, digits-high, digits-pass, digits-last)
+pub ruleset digits-laws = (needs, digits-begin, digits-low, digits-high, digits-pass, digits-last, digits-within, looked-to-end, looked-far)

@@ -1,5 +1,5 @@
 -- The digits that a text begins with. Assumes nothing.
-use Prim.Native.Nat.{ℕ, suc, _+_, _≤_, _<_}
+use Prim.Native.Nat.{ℕ, zero, suc, _+_, _≤_, _<_}
 use native.Mathlib.Decide.{decLt, ℕ-discrete}
 use native.Mathlib.Omega.{arith}
 use mathlib.Core.Bool.{Bool, true, false, _&&_}
@@ -72,11 +72,23 @@ digits-in-within =
     digit-by-digit (λ t. digitsIn t ≤ length t) (omega arith) (λ b bs d ih. rw (digits-in-more b bs d) (omega arith))
     (λ b bs e. rw (digits-in-other b bs e) (omega arith))
 
-pub digits-in-all : (t : Bytes) → T (allDigits (take (digitsIn t) t))
+-- as many of them as one takes are digits
+pub digits-in-all : (t : Bytes) (n : ℕ) → n ≤ digitsIn t → T (allDigits (take n t))
 unfolding digitsIn allDigits
 digits-in-all =
-    digit-by-digit (λ t. T (allDigits (take (digitsIn t) t))) tt (λ b bs d ih. rw (digits-in-more b bs d, is-digit b d) ih)
-    (λ b bs e. rw (digits-in-other b bs e) tt)
+    digit-by-digit (λ t. (n : ℕ) → n ≤ digitsIn t → T (allDigits (take n t))) empty more (λ b bs e n few. stop b bs n (rw (digits-in-other b bs e) at few))
+  where
+    empty : (n : ℕ) → n ≤ 0 → T (allDigits (take n []))
+    empty zero few = tt
+    empty (suc n) few = tt
+
+    more : (b : ℕ) (bs : Bytes) → Digit b → ((n : ℕ) → n ≤ digitsIn bs → T (allDigits (take n bs))) → (n : ℕ) → n ≤ digitsIn (b ∷ bs) → T (allDigits (take n (b ∷ bs)))
+    more b bs d ih zero few = tt
+    more b bs d ih (suc n) few = let rest : n ≤ digitsIn bs = omega (arith, digits-in-more b bs d) in rw (is-digit b d) (ih n rest)
+
+    stop : (b : ℕ) (bs : Bytes) (n : ℕ) → n ≤ 0 → T (allDigits (take n (b ∷ bs)))
+    stop b bs zero few = tt
+    stop b bs (suc n) few = absurd (omega arith)
 
 -- ---- with a minus in front, or without
 pub amount-in-minus : (bs : Bytes) → amountIn (45 ∷ bs) ≡ suc (digitsIn bs)
@@ -105,13 +117,15 @@ all-plain (b ∷ bs) t = go (digit-or b) t
     go (digit d) t = rw (ne-eqb b 45 (λ e. omega arith)) t
     go (other e) t = absurd (rw e at t)
 
-pub amount-in-all : (t : Bytes) → T (allAmount (take (amountIn t) t))
+pub amount-in-all : (t : Bytes) (n : ℕ) → n ≤ amountIn t → T (allAmount (take n t))
 unfolding amountIn allAmount
-amount-in-all [] = tt
-amount-in-all (b ∷ bs) =
+amount-in-all [] zero few = tt
+amount-in-all [] (suc n) few = tt
+amount-in-all (b ∷ bs) zero few = tt
+amount-in-all (b ∷ bs) (suc n) few =
     elim (ℕ-discrete b 45) [
-      | yes e ↦ rw e (digits-in-all bs)
-      | no n ↦ rw (amount-in-plain b bs n) (all-plain (take (digitsIn (b ∷ bs)) (b ∷ bs)) (digits-in-all (b ∷ bs)))
+      | yes e ↦ let rest : n ≤ digitsIn bs = omega (arith, ap (λ (c : ℕ). amountIn (c ∷ bs)) e, amount-in-minus bs) in rw e (digits-in-all bs n rest)
+      | no m ↦ all-plain (b ∷ take n bs) (digits-in-all (b ∷ bs) (suc n) (rw (amount-in-plain b bs m) at few))
     ]
 
 -- ---- digits alone

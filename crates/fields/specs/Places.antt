@@ -1,5 +1,5 @@
 -- What the code uses: a text from a place on, the byte that stands there, and the number.
-use Prim.Native.Nat.{ℕ, suc, _+_, _≤_}
+use Prim.Native.Nat.{ℕ, suc, _+_, _<_, _≤_}
 use mathlib.Core.Bool.{Bool, true, false, cond}
 use mathlib.Core.List.{[], _∷_}
 use mathlib.Core.Path.{_≡_}
@@ -7,7 +7,7 @@ use lib.Dec.{eqb}
 use lib.IntN.{pos}
 use lib.ListN.{length, take, drop}
 use Rattle.fields.specs.Pieces.{Bytes}
-use Rattle.fields.specs.Numbers.{numberOf, amountOf}
+use Rattle.fields.specs.Numbers.{longestField, numberOf, amountOf}
 use Rattle.fields.specs.Digits.{digitsIn, amountIn}
 use Rattle.fields.specs.declared.Field.{Field}
 use Rattle.fields.specs.declared.Field.the-variants.{Number, NoNumber}
@@ -34,8 +34,21 @@ pub record NoneBefore (x : ℕ) (s : Bytes) (i : ℕ) : Type 0 where
 
 -- digits alone from place `at` to place i
 pub record DigitsTo (s : Bytes) (at i : ℕ) : Type 0 where
+  pub from : at ≤ i
   pub within : i ≤ length s
   pub rest : at + digitsIn (drop at s) ≡ i + digitsIn (drop i s)
+
+-- as far as digits are looked for from place `at` on: to the end, or past the longest field
+pub record LookedTo (s : Bytes) (at limit : ℕ) : Type 0 where
+  pub from : at ≤ limit
+  pub within : limit ≤ length s
+  pub far : limit < length s → at + longestField < limit
+
+-- the end of so many bytes from place `at` on; or, past the longest field, a place among them
+pub record EndFound (at bytes end : ℕ) : Type 0 where
+  pub from : at ≤ end
+  pub most : end ≤ at + bytes
+  pub whole : end ≤ at + longestField → end ≡ at + bytes
 
 -- ---- the number that stands at a place, and the place past it
 abbrev pub numberTo : ℕ → Field → FieldAt

@@ -1,13 +1,13 @@
 // A text by its places: where a byte stands, whether two pieces are the same bytes, and the number that stands at a place. A number ends at the
 // first byte that is no digit; whether that byte may stand there is asked by who reads the line.
 ghost use mathlib.Core.Path.{_≡_};
-ghost use Prim.Native.Nat.{_+_, _≤_};
+ghost use Prim.Native.Nat.{_≤_};
 ghost use lib.Dec.{T};
 ghost use lib.ListN.{length, drop};
 ghost use Rattle.fields.specs.Pieces.{sameBytes};
 ghost use Rattle.fields.specs.Numbers.{digitsOf, numberOf, amountOf};
 ghost use Rattle.fields.specs.Digits.{digitsIn, amountIn, allDigits, allAmount, DigitsLeft};
-ghost use Rattle.fields.specs.Places.{begins, numberAt, amountAt, fieldAt, before};
+ghost use Rattle.fields.specs.Places.{begins, LookedTo, EndFound, numberAt, amountAt, fieldAt, before};
 
 // What a number field is: a number, whatever its range, or none.
 pub enum Field {
@@ -59,19 +59,31 @@ pub fn is_at(s: &[u8], at: usize, x: u8) -> bool
     false
 }
 
-// The first place from `at` on where no digit stands.
+// How far digits are looked for: no number has more than 11.
+fn digits_limit(s: &[u8], at: usize) -> usize
+    requires { ⌜ at ≤ length (now s) ⌝ }
+    ensures { λ r. ⌜ LookedTo (now (s .entry)) at r ⌝ }
+{
+    if s.len() - at < 12 {
+        return s.len();
+    }
+    at + 12
+}
+
+// The first place from `at` on where no digit stands, or the limit.
 fn digits_end(s: &[u8], at: usize) -> usize
     requires { ⌜ at ≤ length (now s) ⌝ }
-    ensures { λ r. ⌜ r ≡ at + digitsIn (drop at (now (s .entry))) ⌝ }
+    ensures { λ r. ⌜ EndFound at (digitsIn (drop at (now (s .entry)))) r ⌝ }
     ensures within { λ r. ⌜ r ≤ length (now (s .entry)) ⌝ }
 {
+    let limit = digits_limit(s, at);
     let mut i = at;
-    while i < s.len() {
+    while i < limit {
         let b = s[i];
-        if b < 48 {
+        if b < b'0' {
             return i;
         }
-        if 57 < b {
+        if b'9' < b {
             return i;
         }
         i += 1;
@@ -82,10 +94,10 @@ fn digits_end(s: &[u8], at: usize) -> usize
 // The same, past a minus where one stands.
 fn amount_end(s: &[u8], at: usize) -> usize
     requires { ⌜ at ≤ length (now s) ⌝ }
-    ensures { λ r. ⌜ r ≡ at + amountIn (drop at (now (s .entry))) ⌝ }
+    ensures { λ r. ⌜ EndFound at (amountIn (drop at (now (s .entry)))) r ⌝ }
     ensures within { λ r. ⌜ r ≤ length (now (s .entry)) ⌝ }
 {
-    if is_at(s, at, 45) {
+    if is_at(s, at, b'-') {
         return digits_end(s, at + 1);
     }
     digits_end(s, at)
@@ -96,15 +108,15 @@ fn digits(f: &[u8], value: u64) -> u64
     requires { ⌜ DigitsLeft (now f) value ⌝ }
     ensures { λ r. ⌜ digitsOf (now (f .entry)) value ≡ Field.Number r ⌝ }
 {
-    let one = value * 10 + ((f[0] - 48) as u64);
+    let one = value * 10 + ((f[0] - b'0') as u64);
     if f.len() == 1 {
         return one;
     }
-    let two = one * 10 + ((f[1] - 48) as u64);
+    let two = one * 10 + ((f[1] - b'0') as u64);
     if f.len() == 2 {
         return two;
     }
-    let three = two * 10 + ((f[2] - 48) as u64);
+    let three = two * 10 + ((f[2] - b'0') as u64);
     if f.len() == 3 {
         return three;
     }
@@ -126,7 +138,7 @@ fn read_number(f: &[u8]) -> Field
     if n == 1 {
         return Field::Number(digits(f, 0));
     }
-    if f[0] == 48 {
+    if f[0] == b'0' {
         return Field::NoNumber;
     }
     Field::Number(digits(f, 0))
@@ -143,7 +155,7 @@ fn read_amount(f: &[u8]) -> Amount
     if 11 < f.len() {
         return Amount::NoAmount;
     }
-    if f[0] == 45 {
+    if f[0] == b'-' {
         let Field::Number(n) = read_number(&f[1..]) else {
             return Amount::NoAmount;
         };

@@ -1,4 +1,4 @@
 pub mod AlongLaws
-mod NumbersLoop
+mod StepLaws
 pub mod WordLaws
 pub mod TextLaws

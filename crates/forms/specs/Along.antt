@@ -1,12 +1,15 @@
 -- What the code uses: a text from a place on, as far as the line that stands there goes.
-use Prim.Native.Nat.{ℕ, zero, suc}
+use Prim.Native.Nat.{ℕ, _+_}
 use mathlib.Core.Bool.{Bool, true, false, cond, not, _&&_, _||_}
 use mathlib.Core.List.{List, [], _∷_}
 use mathlib.Core.Option.{Option, none, some}
 use lib.Dec.{eqb}
 use lib.IntN.{ℤ, pos}
-use lib.ListN.{getD}
+use lib.ListN.{getD, take, drop}
 use Rattle.fields.specs.Pieces.{Bytes, tab, lineFeed, split}
+use Rattle.fields.specs.Places.{begins, fieldAt}
+use Rattle.fields.specs.declared.FieldAt.{FieldAt}
+use Rattle.fields.specs.declared.FieldAt.the-variants.{NoWhole}
 use Rattle.rows.specs.Fields.{Holds, operand, amount, readFields}
 use Rattle.forms.specs.declared.NumbersAt.{NumbersAt}
 use Rattle.forms.specs.declared.NumbersAt.the-variants.{Numbers, NotOfForm}
@@ -49,10 +52,17 @@ numbersIn fs [] = none
 numbersIn fs (b ∷ bs) =
     cond (eqb b lineFeed) (readFields fs []) (cond (eqb b tab && isClosed bs) (readFields fs (split tab (lineIn bs))) none)
 
--- a description of k fields, the first of them with number i: the one with number `signed` has an amount, the others a number
-abbrev pub fieldsWith : ℕ → ℕ → ℕ → List Holds
-fieldsWith signed i zero = []
-fieldsWith signed i (suc k) = cond (eqb i signed) (amount 0) operand ∷ fieldsWith signed (suc i) k
+-- the number of a field after a tab that stands here, with a sign or without
+unfoldable pub fieldAfter : Bool → Bytes → ℕ → FieldAt
+fieldAfter signed s at = cond (begins tab (drop at s)) (fieldAt signed s (at + 1)) NoWhole
+
+-- a description of up to three fields: the second has an amount, or they all have numbers
+abbrev pub fieldsBy : Bool → ℕ → List Holds
+fieldsBy signed count = take count (operand ∷ cond signed (amount 0) operand ∷ operand ∷ [])
+
+-- a line's numbers, with nothing but the line feed after them
+abbrev pub closedTo : ℕ → ℤ → ℤ → ℤ → ℕ → Bytes → NumbersAt
+closedTo place first second third end t = cond (begins lineFeed t) (Numbers first second third end) (NotOfForm 1 place)
 
 -- what is read of a line with that place whose line feed stands at `end`
 abbrev pub numbersTo : ℕ → ℕ → Option (List ℤ) → NumbersAt

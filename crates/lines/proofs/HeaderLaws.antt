@@ -28,7 +28,7 @@ use Rattle.model.proofs.Tests.{and-first, and-second}
 use Rattle.text.specs.Files.{headerWord, headerOf, headerForm}
 use Rattle.forms.specs.declared.NumbersAt.{NumbersAt}
 use Rattle.forms.specs.declared.NumbersAt.the-variants.{Numbers, NotOfForm}
-use Rattle.forms.specs.Along.{lineIn, isClosed, fieldIn, numbersIn, fieldsWith, numbersTo}
+use Rattle.forms.specs.Along.{lineIn, isClosed, fieldIn, numbersIn, fieldsBy, numbersTo}
 use Rattle.forms.proofs.WordLaws.{uncut, field-line}
 use Rattle.forms.proofs.TextLaws.{titled-reads, alike, alike-numbers, numbers-closed}
 use Rattle.lines.specs.declared.headers.HeaderRead.{HeaderRead}
@@ -169,12 +169,12 @@ module _ (g : Grammar) (t : Bytes) (u : Bool) (q : u ≡ sameBytes (fieldIn t) (
     line-end : start + length (lineIn (drop start t)) ≡ length (lineIn t)
     line-end = sym (field-line t ∙ rw past-word)
 
-    module _ (r : NumbersAt) (p : r ≡ numbersTo 1 (start + length (lineIn (drop start t))) (numbersIn (fieldsWith 3 0 3) (drop start t))) where
+    module _ (r : NumbersAt) (p : r ≡ numbersTo 1 (start + length (lineIn (drop start t))) (numbersIn (fieldsBy false 3) (drop start t))) where
       answer : Answered 1 (start + length (lineIn (drop start t))) (numbersIn headerFields (drop start t)) r
       unfolding alike
       answer =
           answered 1 (start + length (lineIn (drop start t))) (numbersIn headerFields (drop start t)) r
-          (p ∙ ap (numbersTo 1 (start + length (lineIn (drop start t)))) (sym (alike-numbers headerFields (fieldsWith 3 0 3) (drop start t) tt)))
+          (p ∙ ap (numbersTo 1 (start + length (lineIn (drop start t)))) (sym (alike-numbers headerFields (fieldsBy false 3) (drop start t) tt)))
 
       pub no-form : (m n : ℕ) → r ≡ NotOfForm m n → refused m n ≡ headerTo (length (lineIn t) + 1) (headerJudged g t)
       no-form m n is =

@@ -1,10 +1,9 @@
 -- Ranges, operands and kinds of a line, by its word and the numbers after it. Assumes nothing.
-use Prim.Native.Nat.{ℕ, zero, suc, _+_, _≤_, _<_}
+use Prim.Native.Nat.{ℕ, zero, suc, _+_, _≤_}
 use native.Mathlib.Omega.{arith}
 use mathlib.Core.Path.{_≡_, refl, sym, ap, ap₂, _∙_, subst}
 use mathlib.Core.Bool.{Bool, true, false, cond, not, _&&_, _||_}
 use mathlib.Core.List.{List, [], _∷_, map}
-use mathlib.Core.Option.{some}
 use borrow.Author.Needs.{needs}
 use borrow.Author.Tests.{not-true, not-false}
 use lib.Dec.{T, leb, leb→le}
@@ -28,20 +27,22 @@ use Rattle.model.specs.declared.Line.{Line}
 use Rattle.model.specs.declared.Word.{Word}
 use Rattle.model.specs.declared.Word.the-variants.{In, Const, Neg, Rot, Add, Mul, Out, Enc, Rs, Ms, Us, NoWord}
 use Rattle.model.specs.Scales.{headerInRange}
-use Rattle.model.specs.Words.{Asks, noOperand, aCiphertext, aConstant, aPair, entry, sameWord, hasWord}
-use Rattle.model.specs.Files.{said, lineOf, wordOf, rowOf, isWord, inRange, operands, kindAt, isUsable, everyUsable, asksFor, kindsFit}
+use Rattle.model.specs.Words.{Asks, noOperand, aCiphertext, aConstant, aPair, entry, hasWord}
+use Rattle.model.specs.Numbering.{sameWord}
+use Rattle.model.specs.Files.{lineOf, isWord, inRange, operands, kindAt, isCiphertext, isConstant, isUsable, isPair, everyUsable, asksFor, kindsFit}
 use Rattle.model.proofs.Tests.{and-first, and-second, header-facts}
 use Rattle.model.proofs.EveryWord.{every-word, same-word}
 use Rattle.text.proofs.WordLaws.{said-line}
 use Rattle.text.proofs.FormLaws.{line-bounded}
-use Rattle.forms.specs.Along.{numbersIn}
 use Rattle.forms.proofs.TextLaws.{isSigned, numbers-held}
 use Rattle.tables.specs.Records.{amountFrom, lineWith, linesOf, linesHeld}
 use Rattle.tables.proofs.Words.{line-word}
-use Rattle.lines.specs.declared.judging.Operands.{Operands}
-use Rattle.lines.specs.declared.judging.Operands.the-variants.{NoOperand, Ciphertext, Constant, Pair}
+use Rattle.lines.specs.declared.kinds.Fitness.{Fitness}
+use Rattle.lines.specs.declared.kinds.Fitness.the-variants.{Fit, Unusable, WrongKind}
+use Rattle.lines.specs.declared.judging.OperandsAsked.{OperandsAsked}
+use Rattle.lines.specs.declared.judging.OperandsAsked.the-variants.{NoOperand, Ciphertext, Constant, Pair}
 use Rattle.lines.specs.Judging as Judging
-use Rattle.lines.specs.Judging.{operandsAsked, operandsOf, usableBy, kindsFitBy, secondKind, secondHeld, SecondFits, NumbersRead}
+use Rattle.lines.specs.Judging.{operandsAsked, operandsOf, fitness, usableBy, kindsFitBy, fitnessBy, secondHeld, SecondFits, NumbersRead}
 use Rattle.lines.specs.Lines.{lineTo, judgedAs}
 
 -- ---- a number that has no sign, as the machine holds it
@@ -73,18 +74,38 @@ module _ (z : ℤ) (s : SFits w64 z) (n : T (nonNeg z)) where
       same (pos m) n = refl
       same (negsuc m) n = absurd n
 
--- ---- the second operand's kind
-module _ (o : Operands) (z : ℤ) (s : SFits w64 z) (unsigned : o ≡ Pair → T (nonNeg z)) (e : o ≡ Pair) where
+-- ---- what the operands are to a line, by what it asks
+module _ (g : Grammar) (o : OperandsAsked) (lines : List Line) (a b : ℤ) (sa : SFits w64 a) (na : T (nonNeg a)) where
+  pub none-asked : o ≡ NoOperand → Fit ≡ fitnessBy g o (kindAt lines (positive a)) (kindAt lines (positive b))
+  none-asked e = rw e
+
+  module _ (j : Kind) (p : j ≡ kindAt lines (natAbs (toZ w64 (ofZ w64 a)))) where
+    first-kind : j ≡ kindAt lines (positive a)
+    first-kind = p ∙ ap (kindAt lines) (magnitude a sa na)
+
+    pub ciphertext-asked :
+        (r : Fitness) → o ≡ Ciphertext → r ≡ fitness (isUsable j) (isCiphertext j) → r ≡ fitnessBy g o (kindAt lines (positive a)) (kindAt lines (positive b))
+    ciphertext-asked r e q = rw (e, ← first-kind) q
+
+    pub constant-asked :
+        (r : Fitness) → o ≡ Constant → r ≡ fitness (isUsable j) (isConstant j) → r ≡ fitnessBy g o (kindAt lines (positive a)) (kindAt lines (positive b))
+    constant-asked r e q = rw (e, ← first-kind) q
+
+    pub pair-asked :
+        (r : Fitness) → o ≡ Pair → SFits w64 b → (o ≡ Pair → T (nonNeg b)) → (k : Kind) → k ≡ kindAt lines (natAbs (toZ w64 (ofZ w64 b))) →
+        r ≡ fitness (isUsable j && isUsable k) (isPair g j k) → r ≡ fitnessBy g o (kindAt lines (positive a)) (kindAt lines (positive b))
+    pair-asked r e sb nb k p′ q =
+        let second : k ≡ kindAt lines (positive b) = p′ ∙ ap (kindAt lines) (magnitude b sb (nb e)) in
+        rw (e, ← first-kind, ← second) q
+
+module _ (o : OperandsAsked) (z : ℤ) (s : SFits w64 z) (unsigned : o ≡ Pair → T (nonNeg z)) (e : o ≡ Pair) where
   pub pair-unsigned : T (nonNeg (toZ w64 (ofZ w64 z)))
   pair-unsigned = natural-unsigned z s (unsigned e)
 
   pub pair-fits : Fits w64 (natAbs (toZ w64 (ofZ w64 z)))
   pair-fits = natural-fits z s (unsigned e)
 
-  pub pair-kind : (lines : List Line) (k : Kind) → k ≡ kindAt lines (natAbs (toZ w64 (ofZ w64 z))) → k ≡ secondKind o (kindAt lines (positive z))
-  pair-kind lines k q = rw e (q ∙ ap (kindAt lines) (magnitude z s (unsigned e)))
-
-pub ruleset second-laws = (needs, pair-unsigned, pair-fits, pair-kind)
+pub ruleset asked-laws = (needs, natural-unsigned, natural-fits, pair-unsigned, pair-fits, none-asked, ciphertext-asked, constant-asked, pair-asked)
 
 -- ---- the second number in a record
 module _ (w : Word) (z : ℤ) (s : SFits w64 z) (fits : SecondFits w z) (t : Bool) (q : t ≡ sameWord w Rot) where
@@ -114,7 +135,7 @@ module _ (w : Word) (z : ℤ) (s : SFits w64 z) (fits : SecondFits w z) (t : Boo
 pub ruleset number-laws = (needs, amount-fits, amount-held, number-unsigned, number-fits, number-held)
 
 -- ---- a line's operands are its first numbers, by what its word asks
-abbrev operandsBy : Operands → ℕ → ℕ → List ℕ
+abbrev operandsBy : OperandsAsked → ℕ → ℕ → List ℕ
 operandsBy NoOperand a b = []
 operandsBy Ciphertext a b = a ∷ []
 operandsBy Constant a b = a ∷ []
@@ -139,7 +160,7 @@ and-true : (b : Bool) → (b && true) ≡ b
 and-true true = refl
 and-true false = refl
 
-usable-operands : (lines : List Line) (o : Operands) (a b : ℕ) → everyUsable lines (operandsBy o a b) ≡ usableBy o (kindAt lines a) (kindAt lines b)
+usable-operands : (lines : List Line) (o : OperandsAsked) (a b : ℕ) → everyUsable lines (operandsBy o a b) ≡ usableBy o (kindAt lines a) (kindAt lines b)
 usable-operands lines NoOperand a b = refl
 usable-operands lines Ciphertext a b = and-true (isUsable (kindAt lines a))
 usable-operands lines Constant a b = and-true (isUsable (kindAt lines a))
@@ -147,7 +168,7 @@ usable-operands lines Pair a b = ap (λ (u : Bool). isUsable (kindAt lines a) &&
 
 fit-asked : (g : Grammar) (lines : List Line) (s : Asks) (a b : ℕ) →
     asksFor g s (getD (map (kindAt lines) (operandsBy (operandsAsked s) a b)) 0 Nothing) (getD (map (kindAt lines) (operandsBy (operandsAsked s) a b)) 1 Nothing)
-    ≡ kindsFitBy g (operandsAsked s) (kindAt lines a) (secondKind (operandsAsked s) (kindAt lines b))
+    ≡ kindsFitBy g (operandsAsked s) (kindAt lines a) (kindAt lines b)
 fit-asked g lines noOperand a b = refl
 fit-asked g lines aCiphertext a b = refl
 fit-asked g lines aConstant a b = refl
@@ -271,6 +292,26 @@ pub record Fitting (g : Grammar) (h : Header) (lines : List Line) (w : Word) (a 
 pub held-few : (records : List (List ℕ)) (count : ℕ) → count ≤ 1792 → length (linesHeld records count) ≤ 1792
 held-few records count few = omega (arith, length-take count (linesOf records))
 
+-- what was found tells which tests are passed
+record Both (u k fits : Bool) : Type 0 where
+  usable : u ≡ true
+  kinds : k ≡ fits
+
+when-unusable : (u k : Bool) → fitness u k ≡ Unusable → u ≡ false
+when-unusable false k e = refl
+when-unusable true false e = absurd (let z : _≡_ {A = ℕ} 0 1 = cc in omega arith)
+when-unusable true true e = absurd (let z : _≡_ {A = ℕ} 0 1 = cc in omega arith)
+
+when-wrong : (u k : Bool) → fitness u k ≡ WrongKind → Both u k false
+when-wrong false k e = absurd (let z : _≡_ {A = ℕ} 0 1 = cc in omega arith)
+when-wrong true false e = record { usable = refl; kinds = refl }
+when-wrong true true e = absurd (let z : _≡_ {A = ℕ} 0 1 = cc in omega arith)
+
+when-fit : (u k : Bool) → fitness u k ≡ Fit → Both u k true
+when-fit false k e = absurd (let z : _≡_ {A = ℕ} 0 1 = cc in omega arith)
+when-fit true false e = absurd (let z : _≡_ {A = ℕ} 0 1 = cc in omega arith)
+when-fit true true e = record { usable = refl; kinds = refl }
+
 module _ (g : Grammar) (h : Header) (w : Word) (a b c : ℤ) (t : Bool) (q : t ≡ inRange h (lineOf w (machine a ∷ machine b ∷ machine c ∷ [])))
     (told : NumbersRead w a b c) (has : T (hasWord g w)) (sa : SFits w64 a) (sb : SFits w64 b) (sc : SFits w64 c) where
   -- the machine's numbers are the line's
@@ -292,39 +333,44 @@ module _ (g : Grammar) (h : Header) (w : Word) (a b c : ℤ) (t : Bool) (q : t �
     unfolding judgedAs
     out-of-range n end o = rw (word-passes, in-range, o)
 
-    module _ (o : t ≡ true) (ops : Operands) (i : ops ≡ operandsOf w) (j : Kind) (p : j ≡ kindAt lines (natAbs (machine a))) (k : Kind)
-        (p′ : k ≡ secondKind ops (kindAt lines (positive (machine b)))) (u : Bool) (q′ : u ≡ usableBy ops j k) where
-      first-kind : kindAt lines (positive a) ≡ j
-      first-kind = sym (p ∙ ap (kindAt lines) (magnitude a sa (first-natural told)))
+    every-usable : everyUsable lines (operands (lineOf w (a ∷ b ∷ c ∷ []))) ≡ usableBy (operandsOf w) (kindAt lines (positive a)) (kindAt lines (positive b))
+    every-usable = ap (everyUsable lines) (operands-are a b c w) ∙ usable-operands lines (operandsOf w) (positive a) (positive b)
 
-      second-kind : k ≡ secondKind (operandsOf w) (kindAt lines (positive b))
-      second-kind = p′ ∙ ap₂ (λ (v : Operands) (z : ℤ). secondKind v (kindAt lines (positive z))) i (toZ-ofZ w64 b sb)
+    kinds-fit : kindsFit g lines (lineOf w (a ∷ b ∷ c ∷ [])) ≡ kindsFitBy g (operandsOf w) (kindAt lines (positive a)) (kindAt lines (positive b))
+    kinds-fit =
+        ap₂ (λ (s : Asks) (l : List ℕ). asksFor g s (getD (map (kindAt lines) l) 0 Nothing) (getD (map (kindAt lines) l) 1 Nothing))
+        (ap (λ (v : Word). entry v .asks) (line-word w (a ∷ b ∷ c ∷ []))) (operands-are a b c w)
+        ∙ fit-asked g lines (entry w .asks) (positive a) (positive b)
 
-      every-usable : everyUsable lines (operands (lineOf w (a ∷ b ∷ c ∷ []))) ≡ u
-      every-usable =
-          ap (everyUsable lines) (operands-are a b c w) ∙ usable-operands lines (operandsOf w) (positive a) (positive b)
-          ∙ ap (λ (m : Kind). usableBy (operandsOf w) m (kindAt lines (positive b))) first-kind
-          ∙ unasked (operandsOf w) (kindAt lines (positive b)) ∙ ap₂ (λ (v : Operands) (m : Kind). usableBy v j m) (sym i) (sym second-kind) ∙ sym q′
-        where
-          unasked : (v : Operands) (m : Kind) → usableBy v j m ≡ usableBy v j (secondKind v m)
-          unasked NoOperand m = refl
-          unasked Ciphertext m = refl
-          unasked Constant m = refl
-          unasked Pair m = refl
+    module _ (o : t ≡ true) (asked : OperandsAsked) (i : asked ≡ operandsOf w) (f : Fitness)
+        (q′ : f ≡ fitnessBy g asked (kindAt lines (positive (machine a))) (kindAt lines (positive (machine b)))) where
+      abbrev usable : Bool
+      usable = everyUsable lines (operands (lineOf w (a ∷ b ∷ c ∷ [])))
 
-      pub not-usable : (n end : ℕ) → u ≡ false → refused 4 (n + 2) ≡ lineTo (placeOf n) end (judgedAs g h lines (lineOf w (a ∷ b ∷ c ∷ [])))
+      abbrev kinds : Bool
+      kinds = kindsFit g lines (lineOf w (a ∷ b ∷ c ∷ []))
+
+      found : fitness usable kinds ≡ f
+      found =
+          ap₂ fitness every-usable kinds-fit
+          ∙ sym (q′ ∙ ap₃ (λ (v : OperandsAsked) (x y : ℤ). fitnessBy g v (kindAt lines (positive x)) (kindAt lines (positive y))) i (toZ-ofZ w64 a sa) (toZ-ofZ w64 b sb))
+
+      pub not-usable : (n end : ℕ) → f ≡ Unusable → refused 4 (n + 2) ≡ lineTo (placeOf n) end (judgedAs g h lines (lineOf w (a ∷ b ∷ c ∷ [])))
       unfolding judgedAs
-      not-usable n end o′ = rw (word-passes, in-range, o, every-usable, o′)
+      not-usable n end e = rw (word-passes, in-range, o, when-unusable usable kinds (found ∙ e))
 
-      module _ (o′ : u ≡ true) (top : T (headerInRange h)) (few : length lines ≤ 1792) where
-        ranged-line : T (inRange h (lineOf w (a ∷ b ∷ c ∷ [])))
-        ranged-line = subst T (sym (in-range ∙ o)) tt
+      pub not-fit : (n end : ℕ) → f ≡ WrongKind → refused 5 (n + 2) ≡ lineTo (placeOf n) end (judgedAs g h lines (lineOf w (a ∷ b ∷ c ∷ [])))
+      unfolding judgedAs
+      not-fit n end e = let wrong = when-wrong usable kinds (found ∙ e) in rw (word-passes, in-range, o, wrong .usable, wrong .kinds)
 
-        usable-line : T (everyUsable lines (operands (lineOf w (a ∷ b ∷ c ∷ []))))
-        usable-line = subst T (sym (every-usable ∙ o′)) tt
+      module _ (e : f ≡ Fit) where
+        fit : Both usable kinds true
+        fit = when-fit usable kinds (found ∙ e)
 
-        pub fitting : Fitting g h lines w a b c
-        fitting =
+        pub fitting : T (headerInRange h) → length lines ≤ 1792 → Fitting g h lines w a b c
+        fitting top few =
+            let ranged-line : T (inRange h (lineOf w (a ∷ b ∷ c ∷ []))) = subst T (sym (in-range ∙ o)) tt in
+            let usable-line : T (everyUsable lines (operands (lineOf w (a ∷ b ∷ c ∷ [])))) = subst T (sym (fit .usable)) tt in
             let first = first-number h top lines few told ranged-line usable-line in
             let third = third-number h top lines few told ranged-line usable-line in
             record {
@@ -335,27 +381,15 @@ module _ (g : Grammar) (h : Header) (w : Word) (a b c : ℤ) (t : Bool) (q : t �
               third-fits = subst (λ (z : ℤ). Fits w16 (natAbs z)) (sym (toZ-ofZ w64 c sc)) (third .fits);
             }
 
-      module _ (o′ : u ≡ true) (v : Bool) (q″ : v ≡ kindsFitBy g ops j k) where
-        kinds-fit : kindsFit g lines (lineOf w (a ∷ b ∷ c ∷ [])) ≡ v
-        kinds-fit =
-            ap₂ (λ (s : Asks) (l : List ℕ). asksFor g s (getD (map (kindAt lines) l) 0 Nothing) (getD (map (kindAt lines) l) 1 Nothing))
-            (ap (λ (v : Word). entry v .asks) (line-word w (a ∷ b ∷ c ∷ []))) (operands-are a b c w)
-            ∙ fit-asked g lines (entry w .asks) (positive a) (positive b)
-            ∙ ap₂ (λ (m : Kind) (l : Kind). kindsFitBy g (operandsOf w) m l) first-kind (sym second-kind) ∙ ap (λ (v : Operands). kindsFitBy g v j k) (sym i) ∙ sym q″
-
-        pub not-fit : (n end : ℕ) → v ≡ false → refused 5 (n + 2) ≡ lineTo (placeOf n) end (judgedAs g h lines (lineOf w (a ∷ b ∷ c ∷ [])))
-        unfolding judgedAs
-        not-fit n end o″ = rw (word-passes, in-range, o, every-usable, o′, kinds-fit, o″)
-
-        pub fits : (n end : ℕ) → v ≡ true → (m : ℕ) → secondHeld w m ≡ machine b
+        pub fits : (n end m : ℕ) → secondHeld w m ≡ machine b
             → Rows.read (lineWith w (natAbs (machine a)) m (natAbs (machine c)), end) ≡ lineTo (placeOf n) end (judgedAs g h lines (lineOf w (a ∷ b ∷ c ∷ [])))
         unfolding judgedAs
-        fits n end o″ m e =
-            rw (word-passes, in-range, o, every-usable, o′, kinds-fit, o″)
+        fits n end m s =
+            rw (word-passes, in-range, o, fit .usable, fit .kinds)
             (ap (λ (x : Line). Rows.read (x, end))
-            (ap₃ (λ (x y z : ℤ). lineOf w (x ∷ y ∷ z ∷ [])) (whole a sa (first-natural told)) (e ∙ toZ-ofZ w64 b sb) (whole c sc (third-natural told))))
+            (ap₃ (λ (x y z : ℤ). lineOf w (x ∷ y ∷ z ∷ [])) (whole a sa (first-natural told)) (s ∙ toZ-ofZ w64 b sb) (whole c sc (third-natural told))))
 
-pub second-asked : (w : Word) (a b c : ℤ) → NumbersRead w a b c → SFits w64 b → (ops : Operands) → ops ≡ operandsOf w → ops ≡ Pair → T (nonNeg (machine b))
+pub second-asked : (w : Word) (a b c : ℤ) → NumbersRead w a b c → SFits w64 b → (ops : OperandsAsked) → ops ≡ operandsOf w → ops ≡ Pair → T (nonNeg (machine b))
 second-asked w a b c told s ops i e = natural-unsigned b s (second-natural told (go (sameWord w Rot) refl))
   where
     go : (u : Bool) → sameWord w Rot ≡ u → sameWord w Rot ≡ false

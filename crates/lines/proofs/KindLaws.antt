@@ -8,9 +8,8 @@ use Rattle.model.specs.declared.Grammar.the-variants.{Circuit, Schedule}
 use Rattle.model.specs.declared.Kind.{Kind}
 use Rattle.model.specs.declared.Kind.the-variants.{Ciphertext, Nothing}
 use Rattle.model.specs.Files.{isCiphertext, isUsable, isPlaintext, isPair}
-use Rattle.lines.specs.declared.judging.Operands.{Operands}
-use Rattle.lines.specs.declared.judging.Operands.the-variants.{Pair}
-use Rattle.lines.specs.Judging.{usableBy, kindsFitBy}
+use Rattle.lines.specs.declared.kinds.Fitness.the-variants.{Fit, Unusable, WrongKind}
+use Rattle.lines.specs.Judging.{fitness}
 
 -- kinds that are no kind of plaintext
 pub plain-nothing : (g : Grammar) (k : Kind) → k ≡ Nothing → false ≡ isPlaintext g k
@@ -47,20 +46,20 @@ module _ (g : Grammar) (j k : Kind) (t u : Bool) (q : t ≡ isCiphertext j) (p :
       none true = refl
       none false = refl
 
--- ---- what the operands are decides
-module _ (o v : Operands) (e : o ≡ v) (j k : Kind) (r : Bool) where
-  pub usable-by : r ≡ usableBy v j k → r ≡ usableBy o j k
-  usable-by q = rw e q
+-- ---- what two operands are to a line
+module _ (g : Grammar) (j k : Kind) (t : Bool) (q : t ≡ isUsable j) where
+  pub first-unusable : t ≡ false → Unusable ≡ fitness (isUsable j && isUsable k) (isPair g j k)
+  first-unusable h = rw (← q, h)
 
-  pub fit-by : (g : Grammar) → r ≡ kindsFitBy g v j k → r ≡ kindsFitBy g o j k
-  fit-by g q = rw e q
+  module _ (h : t ≡ true) (u : Bool) (p : u ≡ isUsable k) where
+    pub second-unusable : u ≡ false → Unusable ≡ fitness (isUsable j && isUsable k) (isPair g j k)
+    second-unusable o = rw (← q, h, ← p, o)
 
-module _ (o : Operands) (e : o ≡ Pair) (j k : Kind) (t : Bool) (q : t ≡ isUsable j) where
-  pub second-usable : (r : Bool) → t ≡ true → r ≡ isUsable k → r ≡ usableBy o j k
-  second-usable r h p = rw (e, ← q, h) p
+    pub pair-wrong : u ≡ true → (v : Bool) → v ≡ isPair g j k → v ≡ false → WrongKind ≡ fitness (isUsable j && isUsable k) (isPair g j k)
+    pair-wrong o v e f = rw (← q, h, ← p, o, ← e, f)
 
-  pub first-unusable : t ≡ false → false ≡ usableBy o j k
-  first-unusable h = rw (e, ← q, h)
+    pub pair-fit : u ≡ true → (v : Bool) → v ≡ isPair g j k → v ≡ true → Fit ≡ fitness (isUsable j && isUsable k) (isPair g j k)
+    pair-fit o v e f = rw (← q, h, ← p, o, ← e, f)
 
 pub ruleset kind-laws =
-    (needs, not-true, not-false, plain-nothing, plain-ciphertext, pair-both, pair-second, pair-first, pair-none, usable-by, fit-by, second-usable, first-unusable)
+    (needs, not-true, not-false, plain-nothing, plain-ciphertext, pair-both, pair-second, pair-first, pair-none, first-unusable, second-unusable, pair-wrong, pair-fit)

@@ -1,5 +1,5 @@
 -- A whole line: one law for each return of the code, its premises the tests on the way and what the callees ensure. Assumes nothing.
-use Prim.Native.Nat.{ℕ, _+_, _≤_, _<_}
+use Prim.Native.Nat.{ℕ, _+_, _≤_}
 use native.Mathlib.Omega.{arith}
 use mathlib.Core.Path.{_≡_, refl, sym, ap, ap₂, _∙_, subst}
 use mathlib.Core.Bool.{Bool, true, false}
@@ -19,14 +19,15 @@ use Rattle.model.specs.declared.Grammar.{Grammar}
 use Rattle.model.specs.declared.Header.{Header}
 use Rattle.model.specs.declared.Line.{Line}
 use Rattle.model.specs.declared.Word.{Word}
+use Rattle.model.specs.declared.Word.the-variants.{Rot}
 use Rattle.model.specs.Words.{entry, hasWord}
+use Rattle.model.specs.Numbering.{sameWord}
 use Rattle.model.specs.Files.{lineOf}
 use Rattle.model.proofs.EveryWord.{every-word}
 use Rattle.forms.specs.declared.NumbersAt.{NumbersAt}
 use Rattle.forms.specs.declared.NumbersAt.the-variants.{Numbers, NotOfForm}
-use Rattle.forms.specs.Along.{lineIn, numbersIn, fieldsWith, numbersTo}
+use Rattle.forms.specs.Along.{lineIn, numbersIn, fieldsBy, numbersTo}
 use Rattle.forms.proofs.TextLaws.{alike, alike-numbers, Small, small-held, numbers-small, numbers-closed}
-use Rattle.words.specs.Words.{signedField}
 use Rattle.lines.specs.declared.LineRead.{LineRead}
 use Rattle.lines.specs.Judging.{NumbersRead}
 use Rattle.lines.specs.Lines.{lineRead, lineTo, judgedAs, wordJudged}
@@ -92,15 +93,15 @@ module _ (g : Grammar) (h : Header) (lines : List Line) (w : Word) (n start : �
   unfolding wordJudged
   no-word t q e = rw (← q, e)
 
-module _ (w : Word) (n start : ℕ) (s : Bytes) (f : ℕ) (qf : f ≡ length (entry w .fields)) (i : ℕ) (qi : i ≡ signedField w) (r : NumbersAt)
-    (q : r ≡ numbersTo (n + 2) (start + length (lineIn (drop start s))) (numbersIn (fieldsWith i 0 f) (drop start s))) where
+module _ (w : Word) (n start : ℕ) (s : Bytes) (f : ℕ) (qf : f ≡ length (entry w .fields)) (b : Bool) (qb : b ≡ sameWord w Rot) (r : NumbersAt)
+    (q : r ≡ numbersTo (n + 2) (start + length (lineIn (drop start s))) (numbersIn (fieldsBy b f) (drop start s))) where
   -- the fields that the code goes by are like those of the word
-  described : numbersIn (fieldsWith i 0 f) (drop start s) ≡ numbersIn (entry w .fields) (drop start s)
+  described : numbersIn (fieldsBy b f) (drop start s) ≡ numbersIn (entry w .fields) (drop start s)
   unfolding alike
   described =
-      ap₂ (λ (k m : ℕ). numbersIn (fieldsWith k 0 m) (drop start s)) qi qf
-      ∙ sym (alike-numbers (entry w .fields) (fieldsWith (signedField w) 0 (length (entry w .fields))) (drop start s)
-      (every-word (λ v. alike (entry v .fields) (fieldsWith (signedField v) 0 (length (entry v .fields)))) tt w))
+      ap₂ (λ (v : Bool) (m : ℕ). numbersIn (fieldsBy v m) (drop start s)) qb qf
+      ∙ sym (alike-numbers (entry w .fields) (fieldsBy (sameWord w Rot) (length (entry w .fields))) (drop start s)
+      (every-word (λ v. alike (entry v .fields) (fieldsBy (sameWord v Rot) (length (entry v .fields)))) tt w))
 
   answer : Answered (n + 2) (start + length (lineIn (drop start s))) (numbersIn (entry w .fields) (drop start s)) r
   answer = answered (n + 2) (start + length (lineIn (drop start s))) (numbersIn (entry w .fields) (drop start s)) r

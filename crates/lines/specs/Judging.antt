@@ -14,44 +14,47 @@ use mir.Val.{Fits, SFits}
 use Rattle.fields.specs.Pieces.{Bytes}
 use Rattle.model.specs.declared.Grammar.{Grammar}
 use Rattle.model.specs.declared.Kind.{Kind}
-use Rattle.model.specs.declared.Kind.the-variants.{Nothing}
 use Rattle.model.specs.declared.Word.{Word}
 use Rattle.model.specs.declared.Word.the-variants.{Rot}
-use Rattle.model.specs.Words.{Asks, noOperand, aCiphertext, aConstant, aPair, entry, sameWord}
+use Rattle.model.specs.Words.{Asks, noOperand, aCiphertext, aConstant, aPair, entry}
+use Rattle.model.specs.Numbering.{sameWord}
 use Rattle.model.specs.Files.{isUsable, asksFor}
 use Rattle.forms.specs.Along.{numbersIn}
 use Rattle.tables.specs.Records.{amountFrom}
-use Rattle.lines.specs.declared.judging.Operands.{Operands}
-use Rattle.lines.specs.declared.judging.Operands.the-variants.{NoOperand, Ciphertext, Constant, Pair}
+use Rattle.lines.specs.declared.kinds.Fitness.{Fitness}
+use Rattle.lines.specs.declared.kinds.Fitness.the-variants.{Fit, Unusable, WrongKind}
+use Rattle.lines.specs.declared.judging.OperandsAsked.{OperandsAsked}
+use Rattle.lines.specs.declared.judging.OperandsAsked.the-variants.{NoOperand, Ciphertext, Constant, Pair}
 
 -- ---- what a word asks of its operands
-abbrev pub operandsAsked : Asks → Operands
+abbrev pub operandsAsked : Asks → OperandsAsked
 operandsAsked noOperand = NoOperand
 operandsAsked aCiphertext = Ciphertext
 operandsAsked aConstant = Constant
 operandsAsked aPair = Pair
 
-abbrev pub operandsOf : Word → Operands
+abbrev pub operandsOf : Word → OperandsAsked
 operandsOf w = operandsAsked (entry w .asks)
 
-abbrev pub usableBy : Operands → Kind → Kind → Bool
+-- by whether the operands are usable, and then by whether their kinds fit
+abbrev pub fitness : Bool → Bool → Fitness
+fitness usable fit = cond usable (cond fit Fit WrongKind) Unusable
+
+abbrev pub usableBy : OperandsAsked → Kind → Kind → Bool
 usableBy NoOperand j k = true
 usableBy Ciphertext j k = isUsable j
 usableBy Constant j k = isUsable j
 usableBy Pair j k = isUsable j && isUsable k
 
-abbrev pub kindsFitBy : Grammar → Operands → Kind → Kind → Bool
+abbrev pub kindsFitBy : Grammar → OperandsAsked → Kind → Kind → Bool
 kindsFitBy g NoOperand j k = asksFor g noOperand j k
 kindsFitBy g Ciphertext j k = asksFor g aCiphertext j k
 kindsFitBy g Constant j k = asksFor g aConstant j k
 kindsFitBy g Pair j k = asksFor g aPair j k
 
--- the second operand's kind, which is asked of two operands alone
-abbrev pub secondKind : Operands → Kind → Kind
-secondKind NoOperand k = Nothing
-secondKind Ciphertext k = Nothing
-secondKind Constant k = Nothing
-secondKind Pair k = k
+-- what operands of these kinds are to a line that asks so
+abbrev pub fitnessBy : Grammar → OperandsAsked → Kind → Kind → Fitness
+fitnessBy g asked j k = fitness (usableBy asked j k) (kindsFitBy g asked j k)
 
 -- ---- a line's numbers
 -- they were read of the fields after the word; past them there is 0

@@ -81,7 +81,7 @@ pub fn read_header(grammar: Grammar, text: &[u8]) -> HeaderRead
             place: 1,
         };
     }
-    match forms::numbers_at(1, text, header_end(grammar), 3, 3) {
+    match forms::three_numbers_at(1, text, header_end(grammar)) {
         NumbersAt::NotOfForm { number, place } => HeaderRead::Bad { number, place },
         NumbersAt::Numbers {
             first,

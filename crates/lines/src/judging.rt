@@ -1,10 +1,11 @@
 // Ranges, operands and kinds of a line that is of the form, in this order.
 use crate::LineRead;
 use crate::kinds;
+use crate::kinds::Fitness;
 use model::Grammar;
 use model::Header;
-use model::Kind;
 use model::Word;
+use tables::Record;
 ghost use mathlib.Core.Path.{_≡_};
 ghost use mathlib.Core.List.{[], _∷_};
 ghost use mathlib.Core.Bool.{_&&_};
@@ -20,7 +21,7 @@ ghost use Rattle.model.specs.Scales.{headerInRange};
 ghost use Rattle.model.specs.Words.{hasWord};
 ghost use Rattle.model.specs.Files.{lineOf, inRange, kindAt};
 ghost use Rattle.tables.specs.Records.{linesHeld};
-ghost use Rattle.lines.specs.Judging.{operandsOf, usableBy, kindsFitBy, secondKind, secondHeld, SecondFits, NumbersRead};
+ghost use Rattle.lines.specs.Judging.{operandsOf, fitnessBy, secondHeld, SecondFits, NumbersRead};
 ghost use Rattle.lines.specs.Lines.{lineRead, lineTo, judgedAs};
 
 // From 1 to most.
@@ -66,73 +67,60 @@ fn in_range(header: Header, word: Word, first: i64, second: i64, third: i64) -> 
     }
 }
 
-// What a word's operands are: its first fields, where they name earlier lines.
-pub enum Operands {
+// What a word asks of its operands, which are its first fields.
+pub enum OperandsAsked {
     NoOperand,
     Ciphertext,
     Constant,
     Pair,
 }
 
-fn operands_of(word: Word) -> Operands
+fn operands_of(word: Word) -> OperandsAsked
     ensures { λ r. ⌜ r ≡ operandsOf word ⌝ }
 {
     match word {
-        Word::In => Operands::NoOperand,
-        Word::Const => Operands::NoOperand,
-        Word::Neg => Operands::Ciphertext,
-        Word::Rot => Operands::Ciphertext,
-        Word::Add => Operands::Pair,
-        Word::Mul => Operands::Pair,
-        Word::Out => Operands::Ciphertext,
-        Word::Enc => Operands::Constant,
-        Word::Rs => Operands::Ciphertext,
-        Word::Ms => Operands::Ciphertext,
-        Word::Us => Operands::Ciphertext,
-        Word::NoWord => Operands::NoOperand,
+        Word::In => OperandsAsked::NoOperand,
+        Word::Const => OperandsAsked::NoOperand,
+        Word::Neg => OperandsAsked::Ciphertext,
+        Word::Rot => OperandsAsked::Ciphertext,
+        Word::Add => OperandsAsked::Pair,
+        Word::Mul => OperandsAsked::Pair,
+        Word::Out => OperandsAsked::Ciphertext,
+        Word::Enc => OperandsAsked::Constant,
+        Word::Rs => OperandsAsked::Ciphertext,
+        Word::Ms => OperandsAsked::Ciphertext,
+        Word::Us => OperandsAsked::Ciphertext,
+        Word::NoWord => OperandsAsked::NoOperand,
     }
 }
 
-// Whether each operand can be used at all.
-fn usable(operands: Operands, first: Kind, second: Kind) -> bool
-    ensures { λ r. ⌜ r ≡ usableBy operands first second ⌝ }
-{
-    match operands {
-        Operands::NoOperand => true,
-        Operands::Ciphertext => kinds::is_usable(first),
-        Operands::Constant => kinds::is_usable(first),
-        Operands::Pair => {
-            if !kinds::is_usable(first) {
-                return false;
-            }
-            kinds::is_usable(second)
-        }
-    }
-}
-
-// Whether the operands are of the kinds that the word takes.
-fn kinds_fit(grammar: Grammar, operands: Operands, first: Kind, second: Kind) -> bool
-    ensures { λ r. ⌜ r ≡ kindsFitBy grammar operands first second ⌝ }
-{
-    match operands {
-        Operands::NoOperand => true,
-        Operands::Ciphertext => kinds::is_ciphertext(first),
-        Operands::Constant => kinds::is_constant(first),
-        Operands::Pair => kinds::is_pair(grammar, first, second),
-    }
-}
-
-// The kind of the second operand, where the word has two.
-fn second_kind(operands: Operands, records: &[[u16; 4]], count: usize, b: i64) -> Kind
+// What the line's operands are to it, by what its word asks; only an operand that is asked for is looked up.
+fn operands_fit(
+    grammar: Grammar,
+    asked: OperandsAsked,
+    records: &[Record],
+    count: usize,
+    first: i64,
+    second: i64,
+) -> Fitness
     requires { ⌜ count ≤ length (now records) ⌝ }
-    requires unsigned { ⌜ (operands ≡ Operands.Pair → T (nonNeg b)) ⌝ }
-    ensures { λ r. ⌜ r ≡ secondKind operands (kindAt (linesHeld (now (records .entry)) count) (positive b)) ⌝ }
+    requires natural { ⌜ T (nonNeg first) ⌝ }
+    requires unsigned { ⌜ (asked ≡ OperandsAsked.Pair → T (nonNeg second)) ⌝ }
+    ensures { λ r. ⌜ r ≡ fitnessBy grammar asked (kindAt (linesHeld (now (records .entry)) count) (positive first)) (kindAt (linesHeld (now (records .entry)) count) (positive second)) ⌝ }
 {
-    match operands {
-        Operands::NoOperand => Kind::Nothing,
-        Operands::Ciphertext => Kind::Nothing,
-        Operands::Constant => Kind::Nothing,
-        Operands::Pair => tables::kind_at(records, count, b as u64),
+    match asked {
+        OperandsAsked::NoOperand => Fitness::Fit,
+        OperandsAsked::Ciphertext => kinds::ciphertext(tables::kind_at(
+            records,
+            count,
+            first as u64,
+        )),
+        OperandsAsked::Constant => kinds::constant(tables::kind_at(records, count, first as u64)),
+        OperandsAsked::Pair => {
+            let one = tables::kind_at(records, count, first as u64);
+            let two = tables::kind_at(records, count, second as u64);
+            kinds::pair(grammar, one, two)
+        }
     }
 }
 
@@ -151,7 +139,7 @@ fn second_number(word: Word, second: i64) -> u16
 pub fn judge(
     grammar: Grammar,
     header: Header,
-    records: &[[u16; 4]],
+    records: &[Record],
     count: usize,
     word: Word,
     first: i64,
@@ -170,20 +158,14 @@ pub fn judge(
     if !in_range(header, word, first, second, third) {
         return LineRead::Bad { number: 11, place };
     }
-    let operands = operands_of(word);
-    let one = tables::kind_at(records, count, first as u64);
-    let two = second_kind(operands, records, count, second);
-    if !usable(operands, one, two) {
-        return LineRead::Bad { number: 4, place };
-    }
-    if !kinds_fit(grammar, operands, one, two) {
-        return LineRead::Bad { number: 5, place };
-    }
-    let b = second_number(word, second);
-    LineRead::Good {
-        a: first as u16,
-        b,
-        c: third as u16,
-        end,
+    match operands_fit(grammar, operands_of(word), records, count, first, second) {
+        Fitness::Unusable => LineRead::Bad { number: 4, place },
+        Fitness::WrongKind => LineRead::Bad { number: 5, place },
+        Fitness::Fit => LineRead::Good {
+            a: first as u16,
+            b: second_number(word, second),
+            c: third as u16,
+            end,
+        },
     }
 }

@@ -8,6 +8,7 @@ use forms::NumbersAt;
 use model::Grammar;
 use model::Header;
 use model::Word;
+use tables::Record;
 ghost use mathlib.Core.Path.{_≡_};
 ghost use Prim.Native.Nat.{_+_, _≤_};
 ghost use lib.Dec.{T};
@@ -28,7 +29,7 @@ pub enum LineRead {
 pub fn read_line(
     grammar: Grammar,
     header: Header,
-    records: &[[u16; 4]],
+    records: &[Record],
     count: usize,
     text: &[u8],
     word: Word,
@@ -43,13 +44,9 @@ pub fn read_line(
     if !words::is_word_of(grammar, word) {
         return LineRead::Bad { number: 1, place };
     }
-    match forms::numbers_at(
-        place,
-        text,
-        start,
-        words::fields_of(word),
-        words::signed_of(word),
-    ) {
+    let fields = words::fields_of(word);
+    let signed = words::takes_amount(word);
+    match forms::numbers_at(place, text, start, fields, signed) {
         NumbersAt::NotOfForm { number, place } => LineRead::Bad { number, place },
         NumbersAt::Numbers {
             first,

@@ -15,7 +15,7 @@ use Rattle.model.specs.Rules.{Bounds}
 use Rattle.model.specs.Machine.{Step, goes, stops}
 use Rattle.model.specs.declared.Found.{Found}
 use Rattle.model.specs.declared.Found.the-variants as Founds
-use Rattle.model.specs.Refused.{bounded, sum, product}
+use Rattle.model.specs.Answers.{bounded, sum, product}
 use Rattle.model.proofs.Tests.{cond-cases, cond-true}
 
 module _ (h : Header) where

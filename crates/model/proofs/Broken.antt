@@ -24,7 +24,7 @@ use Rattle.model.specs.Machine.{Step, goes, stops, Run, finished, stoppe
 use Rattle.model.specs.Rules.{KeepsRules}
 use Rattle.model.specs.declared.Found.{Found}
 use Rattle.model.specs.declared.Found.the-variants as Founds
-use Rattle.model.specs.Refused.{bounded, onCiphertext, sum, product, checkMachine}
+use Rattle.model.specs.Answers.{bounded, onCiphertext, sum, product, checkMachine}
 use Rattle.model.specs.Broken.{Fault, firstFault, boundFaults, lineFaults}
 use Rattle.model.proofs.Tests.{cond-true, cond-false, eq-passes}
 use Rattle.model.proofs.Runs.{stopped-finished, stopped-is, continued, first-stop}

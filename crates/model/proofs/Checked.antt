@@ -28,7 +28,7 @@ use Rattle.model.specs.Machine.{Step, Run, finished, stopped, andThen, h
 use Rattle.model.specs.Rules.{Rule, Bounds, hasScale, KeepsRules}
 use Rattle.model.specs.declared.Found.{Found}
 use Rattle.model.specs.declared.Found.the-variants as Founds
-use Rattle.model.specs.Refused.{bounded, onBare, onCiphertext, onPair, sum, product, checkMachine, rulesAnswer}
+use Rattle.model.specs.Answers.{bounded, onBare, onCiphertext, onPair, sum, product, checkMachine, rulesAnswer}
 use Rattle.model.proofs.Lists.{found-below, found-is}
 use Rattle.model.proofs.Bounded.{bounded-goes, bounded-cases, sum-cases, product-cases, Tested, tested}
 use Rattle.model.proofs.Tests.{and-first, and-second, or-cases, or-first, or-second, eq-passes, header-facts}

@@ -18,11 +18,11 @@ use Rattle.model.specs.declared.Answer.the-variants.{Done, Level, Refuse
 use Rattle.rows.specs.Rows.{placeOf}
 use Rattle.model.specs.Files.{said, nth, lineOf, wordOf, wellFormed, File}
 use Rattle.model.specs.Scales.{headerNumbers}
-use Rattle.model.specs.Words.{order, sameWord}
+use Rattle.model.specs.Numbering.{order, sameWord}
 use Rattle.model.specs.Machine.{Run, finished, stopped, run}
 use Rattle.model.specs.Services.{erase}
 use Rattle.model.specs.declared.Found.{Found}
-use Rattle.model.specs.Refused.{checkMachine, sameNumbers, sameLine, sameHeader, compared, rulesAnswer, check}
+use Rattle.model.specs.Answers.{checkMachine, sameNumbers, sameLine, sameHeader, compared, rulesAnswer, check}
 use Rattle.model.proofs.Statements.Check.{PassedFiles}
 use Rattle.model.proofs.Statements.Check.{OtherCircuit, other-header, other-lines, ByRules, Judges}
 use Rattle.model.proofs.Tests.{and-first, and-second, and-both, cond-cases, cond-true}

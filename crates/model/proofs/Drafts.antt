@@ -17,7 +17,7 @@ use Rattle.model.specs.Machine.{goes, Run, finished, stopped, orAbsent, 
 use Rattle.model.specs.Services.{kept, madeFrom, fateOf, renumbered, erase, keptLines}
 use Rattle.model.proofs.Statements.Erasing.{origins}
 use Rattle.model.specs.declared.Found.{Found}
-use Rattle.model.specs.Refused.{checkMachine}
+use Rattle.model.specs.Answers.{checkMachine}
 use Rattle.model.proofs.Lists.{length-snoc, found-after, found-last, found-is}
 use Rattle.model.proofs.Runs.{run-snoc}
 use Rattle.model.proofs.Appended.{erase-kept, origins-kept, lines-kept, erase-struck, origins-struck, lines-struck, formed-snoc}

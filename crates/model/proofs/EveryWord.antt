@@ -10,7 +10,8 @@ use Rattle.model.specs.declared.Line.{Line}
 use Rattle.model.specs.declared.Line.the-variants as Lines
 use Rattle.model.specs.declared.Word.{Word}
 use Rattle.model.specs.declared.Word.the-variants.{In, Const, Neg, Rot, Add, Mul, Out, Enc, Rs, Ms, Us, NoWord}
-use Rattle.model.specs.Words.{words, order, sameWord}
+use Rattle.model.specs.Words.{words}
+use Rattle.model.specs.Numbering.{order, sameWord}
 use Rattle.model.specs.Files.{said, lineOf, wordOf}
 use Rattle.model.proofs.Tests.{and-first, and-second}
 

@@ -25,7 +25,7 @@ use Rattle.model.specs.Services.{erase, keptLines}
 use Rattle.model.proofs.Statements.Erasing.{origins}
 use Rattle.model.specs.declared.Found.{Found}
 use Rattle.model.specs.declared.Found.the-variants as Founds
-use Rattle.model.specs.Refused.{bounded, onBare, onCiphertext, onPair, sum, product, checkMachine}
+use Rattle.model.specs.Answers.{bounded, onBare, onCiphertext, onPair, sum, product, checkMachine}
 use Rattle.model.specs.Demands.{ExactLine, Exact}
 use Rattle.model.proofs.Lists.{found-at, All2, length2, beside, All3, nil3, length3, between}
 use Rattle.model.proofs.Kept.{Follows, Kept, run-kept, Finished, finish}

@@ -14,7 +14,7 @@ use Rattle.model.specs.Files.{File}
 use Rattle.model.specs.Machine.{Run, finished, stopped, run}
 use Rattle.model.specs.declared.Best.{Best}
 use Rattle.model.specs.Plan.{bestMachine}
-use Rattle.model.specs.Services.{tryLevels, leastLevel}
+use Rattle.model.specs.Answers.{tryLevels, leastLevel}
 
 module _ (h : Header) (lines : List Line) where
   -- every line has a best reserve at top level l; some line has none

@@ -24,10 +24,10 @@ use Rattle.model.specs.declared.Best.the-variants as Bests
 use Rattle.model.specs.Plan.{Draft, atWaterline, supply, operandTo, planOne, planTwo, inputChoice, unchangedChoice}
 use Rattle.model.specs.Services.{kept, fateOf, renamed, erase}
 use Rattle.model.proofs.Statements.Erasing.{origins}
-use Rattle.model.specs.Refused as Refused
+use Rattle.model.specs.Answers as Refused
 use Rattle.model.specs.declared.Found.{Found}
 use Rattle.model.specs.declared.Found.the-variants as Founds
-use Rattle.model.specs.Refused.{bounded, onPair, checkMachine}
+use Rattle.model.specs.Answers.{bounded, onPair, checkMachine}
 use Rattle.model.proofs.Tests.{and-both, HeaderFacts}
 use Rattle.model.proofs.Lists.{found-at, found-is}
 use Rattle.model.proofs.Bounded.{bounded-goes}

@@ -25,7 +25,7 @@ use Rattle.model.specs.declared.Best.{Best}
 use Rattle.model.specs.declared.Best.the-variants as Bests
 use Rattle.model.specs.Plan.{Draft, atWaterline, smaller, inputChoice, unchangedChoice, timesConstantChoice, constantTimesChoice, productChoice, unlessTooFew, onReserves, bestMachine, choiceOf, planLine, planFrom, planLines}
 use Rattle.model.specs.declared.Found.the-variants as Founds
-use Rattle.model.specs.Refused.{sum, product, bounded}
+use Rattle.model.specs.Answers.{sum, product, bounded}
 use Rattle.model.proofs.Tests.{and-first, and-second, cond-true, HeaderFacts}
 use Rattle.model.proofs.Lists.{length-snoc, found-after, found-last, found-snoc, found-is}
 use Rattle.model.proofs.Runs.{stops-goes, goes-is, stopped-finished, finished-is, kept-on}

@@ -26,7 +26,7 @@ use Rattle.model.specs.Plan.{smaller, inputChoice, unchangedChoice, time
 use Rattle.model.specs.Plan
 use Rattle.model.specs.declared.Found.{Found}
 use Rattle.model.specs.declared.Found.the-variants as Founds
-use Rattle.model.specs.Refused.{bounded, onCiphertext, onPair, sum, product, checkMachine}
+use Rattle.model.specs.Answers.{bounded, onCiphertext, onPair, sum, product, checkMachine}
 use Rattle.model.proofs.Tests.{Within}
 use Rattle.model.proofs.Outcomes.{Outcome, outcome-cond, when-finished, when-stopped, RunOutcome}
 use Rattle.model.proofs.Formed.{well-lines, Matched, Result, OnOne, OnTwo, Duty, formed-run}

@@ -24,10 +24,10 @@ use Rattle.model.proofs.Statements.Products.{productAt}
 use Rattle.model.specs.Plan.{smaller, atWaterline, inputChoice, unchangedChoice, timesConstantChoice, constantTimesChoice, productChoice, unlessTooFew, onReserves, bestMachine}
 use Rattle.model.specs.Services.{erase}
 use Rattle.model.proofs.Statements.Erasing.{origins}
-use Rattle.model.specs.Refused as Refused
+use Rattle.model.specs.Answers as Refused
 use Rattle.model.specs.declared.Found.{Found}
 use Rattle.model.specs.declared.Found.the-variants as Founds
-use Rattle.model.specs.Refused.{bounded, onPair, sum, product, checkMachine}
+use Rattle.model.specs.Answers.{bounded, onPair, sum, product, checkMachine}
 use Rattle.model.proofs.Lists.{nil3, front2, All2, beside, flip2}
 use Rattle.model.proofs.Kept.{Follows, Kept, run-kept, Finished, finish, idle}
 use Rattle.model.proofs.Erasing.{through, Erased, erased}

@@ -25,7 +25,7 @@ use Rattle.model.specs.Rules.{Rule, Bounds, hasScale, KeepsRules}
 use Rattle.model.specs.Machines.{Vector, Handed, Reason, levelsDiffer, scalesDiffer, remainder, belowWaterline, aboveModulus, Holding, bare, scaled, slotwise, rotated, timesTwoTo, overTwoTo, noRemainder, stopIf, ifBounded, onScaled, onBareVector, scaledSum, scaledProduct, rescaled, plainMachine, scaleMachine}
 use Rattle.model.specs.declared.Found.{Found}
 use Rattle.model.specs.declared.Found.the-variants as Founds
-use Rattle.model.specs.Refused.{checkMachine}
+use Rattle.model.specs.Answers.{checkMachine}
 use Rattle.model.proofs.Statements.ScaleMachine as ScaleMachine
 use Rattle.model.proofs.Tests.{header-facts}
 use Rattle.model.proofs.Lists.{found-is, front2, beside}

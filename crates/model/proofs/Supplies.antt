@@ -28,7 +28,7 @@ use Rattle.model.specs.Plan.{Draft, unlessZero, switches, convert, bring
 use Rattle.model.specs.Services.{madeFrom, fateOf}
 use Rattle.model.specs.declared.Found.{Found}
 use Rattle.model.specs.declared.Found.the-variants as Founds
-use Rattle.model.specs.Refused.{bounded, onBare, onCiphertext, checkMachine}
+use Rattle.model.specs.Answers.{bounded, onBare, onCiphertext, checkMachine}
 use Rattle.model.proofs.Tests.{and-both, within-passes, HeaderFacts}
 use Rattle.model.proofs.Bounded.{bounded-goes}
 use Rattle.model.proofs.Drafts.{foundIn, Sound, Stands, kind-at, reads, Grown, emit-struck, then, none, at-most}

@@ -28,12 +28,13 @@ use Rattle.model.specs.declared.Choice.{Choice}
 use Rattle.model.specs.declared.Best.{Best}
 use Rattle.model.specs.declared.Best.the-variants as Bests
 use Rattle.model.specs.Plan.{bestMachine, productChoice, planLines}
-use Rattle.model.specs.Services.{erase, keptLines, Planned, scheduled, unplanned, plan, leastLevel}
+use Rattle.model.specs.Services.{erase, keptLines, Planned, scheduled, unplanned, plan}
+use Rattle.model.specs.Answers.{leastLevel}
 use Rattle.model.proofs.Statements.Erasing.{origins}
-use Rattle.model.specs.Refused as Refused
+use Rattle.model.specs.Answers as Refused
 use Rattle.model.specs.declared.Found.{Found}
 use Rattle.model.specs.declared.Found.the-variants as Founds
-use Rattle.model.specs.Refused.{checkMachine, rulesAnswer}
+use Rattle.model.specs.Answers.{checkMachine, rulesAnswer}
 use Rattle.model.specs.Demands.{Schedulable, reserveAt}
 use Rattle.model.proofs.Statements.Check.{PassedFiles}
 use Rattle.model.proofs.Statements.LeastLevel.{IsLeastLevel}

@@ -2,13 +2,14 @@
 -- Files) and the section on the rules in three (Machine, Rules, Machines), and the demands' own terms in Demands.
 pub mod Scales
 pub mod Words
+pub mod Numbering
 pub mod Files
 pub mod Machine
 pub mod Rules
 pub mod Machines
 pub mod Plan
 pub mod Services
-pub mod Refused
+pub mod Answers
 pub mod Broken
 pub mod Demands
 pub mod Worked

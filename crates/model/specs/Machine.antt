@@ -1,14 +1,13 @@
 -- A machine on a file's lines: the check of the rules, document 01's two machines and the best reserve are each one.
 -- "take a file's lines in order, starting with nothing held, and keep what each line holds."
 use Prim.Native.Nat.{ℕ, suc}
-use mathlib.Core.Bool.{cond}
+use mathlib.Core.Bool.{cond, _&&_}
 use mathlib.Core.List.{List, [], _∷_, _++_}
 use mathlib.Core.Option.{Option, none, some}
+use lib.Dec.{eqb}
 use lib.ListN.{length, getElem?}
 use lib.IntN.{ℤ}
-use Rattle.model.specs.declared.Word as Words
-use Rattle.model.specs.Words.{sameWord}
-use Rattle.model.specs.Files.{wordOf}
+use Rattle.model.specs.Files.{operands, kindOf, isCiphertext}
 use Rattle.model.specs.declared.Line.{Line}
 use Rattle.model.specs.declared.Line.the-variants.{In, Const, Neg, Rot, Add, Mul, Out, Enc, Rs, Ms, Us, Free}
 
@@ -68,9 +67,9 @@ module _ {X E : Type 0} where
   step M ins held (Us a b) = andThen (heldBy M held a) (λ x. M .us x b)
   step M ins held Free = stops (M .absent)
 
--- the `in` lines up to and with this line
+-- the `in` lines up to and with this line: no other ciphertext is made from no operand
 abbrev pub countIn : Line → ℕ → ℕ
-countIn x n = cond (sameWord (wordOf x) Words.the-variants.In) (suc n) n
+countIn x n = cond (isCiphertext (kindOf x) && eqb (length (operands x)) 0) (suc n) n
 
 module _ {X E : Type 0} where
   -- the lines xs, after lines that hold `held` and have `ins` inputs

@@ -13,6 +13,7 @@ headerFields = ranged 1 60 ∷ ranged 1 60 ∷ ranged 1 60 ∷ []
 abbrev pub headerNumbers : Header → List ℤ
 headerNumbers h = pos (h .factor) ∷ pos (h .waterline) ∷ pos (h .top) ∷ []
 
+-- no field of a header is a level, so the top level handed on is not asked
 abbrev pub headerInRange : Header → Bool
 headerInRange h = allInRange 0 headerFields (headerNumbers h)
 

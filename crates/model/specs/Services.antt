@@ -1,16 +1,11 @@
--- Document 01, "Services", on files that were read: erase a schedule, plan a circuit, the least top level. The check stands with its
--- refusals in Refused.
-use Prim.Native.Nat.{ℕ, zero, suc}
+-- Document 01, "Services", on files that were read: erase a schedule, plan a circuit.
+use Prim.Native.Nat.{ℕ, suc}
 use mathlib.Core.Bool.{cond, not, _&&_}
 use mathlib.Core.List.{List, [], _∷_, _++_}
 use lib.ListN.{getD}
-use Rattle.model.specs.declared.Header.{Header}
 use Rattle.model.specs.declared.Line.{Line}
 use Rattle.model.specs.declared.Grammar.the-variants.{Schedule}
-use Rattle.model.specs.declared.Answer.{Answer}
-use Rattle.model.specs.declared.Answer.the-variants.{Done, Level, Refused}
 use Rattle.rows.specs.Rows.{placeOf}
-use Rattle.model.specs.Scales.{withTop}
 use Rattle.model.specs.Files.{File, said, lineOf, wordOf, rowOf, isWord, isCircuitWord, operands}
 use Rattle.model.specs.Words.{renumber}
 use Rattle.model.specs.Machine.{finished, stopped, run}
@@ -72,18 +67,3 @@ plan circuit =
       | finished best ↦ scheduled (record { header = circuit .header; lines = planLines (circuit .header) best (circuit .lines) })
       | stopped i n ↦ unplanned n (placeOf i)
     ]
-
--- "trying L from 1 upward to 60 and stopping at the first that fits": the levels from l on, of which `left` are left; `last` is the refusal
--- at the level before.
-abbrev pub tryLevels : Header → List Line → ℕ → ℕ → Answer → Answer
-tryLevels h lines zero l last = last
-tryLevels h lines (suc left) l last =
-    elim (run (bestMachine (withTop h l)) lines) [
-      | finished best ↦ Level l
-      | stopped i n ↦ tryLevels h lines left (suc l) (Refused n (placeOf i))
-    ]
-
--- "the header's L is then only tested for its range"; where no level fits, the refusal is that of L = 60. The answer before the first level
--- is never given.
-abbrev pub leastLevel : File → Answer
-leastLevel circuit = tryLevels (circuit .header) (circuit .lines) 60 1 Done

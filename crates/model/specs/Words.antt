@@ -7,7 +7,6 @@ use Prim.Native.String as Text
 use Prim.Native.String.{String}
 use mathlib.Core.Bool.{Bool, true, false, cond}
 use mathlib.Core.List.{List, [], _∷_}
-use lib.Dec.{eqb}
 use lib.IntN.{ℤ, pos}
 use Rattle.ints.specs.Parts.{positive}
 use Rattle.rows.specs.Fields.{Holds, operand, ranged, upToTop, amount}
@@ -60,26 +59,9 @@ entry Ms = own (ascii "ms") (operand ∷ ranged 1 60 ∷ []) Ciphertext aCiphert
 entry Us = own (ascii "us") (operand ∷ ranged 1 3600 ∷ []) Ciphertext aCiphertext
 entry NoWord = record { bytes = []; circuit = false; schedule = false; fields = []; kind = Nothing; asks = noOperand }
 
--- all words, and their numbering
+-- all words
 abbrev pub words : List Word
 words = In ∷ Const ∷ Neg ∷ Rot ∷ Add ∷ Mul ∷ Out ∷ Enc ∷ Rs ∷ Ms ∷ Us ∷ []
-
-abbrev pub order : Word → ℕ
-order In = 0
-order Const = 1
-order Neg = 2
-order Rot = 3
-order Add = 4
-order Mul = 5
-order Out = 6
-order Enc = 7
-order Rs = 8
-order Ms = 9
-order Us = 10
-order NoWord = 11
-
-abbrev pub sameWord : Word → Word → Bool
-sameWord v w = eqb (order v) (order w)
 
 -- whether a file has the word
 abbrev pub hasWord : Grammar → Word → Bool

@@ -24,7 +24,8 @@ pub enum Word {
 }
 
 // A line by its word; operands are value numbers. No number of a line that is read is above 65,535; the level is wider, since with eight bytes
-// a line would be moved as one number, which is slower. Free is no line: a record that holds none.
+// a line would be moved as one number, which is slower. Definitions have whole numbers of any size in their place. Free is no line: a record
+// that holds none.
 pub enum Line {
     In,
     Const(u16),
@@ -56,7 +57,6 @@ pub enum Kind {
 
 // How a ciphertext line is done: the level, the reserves to which its operands come at that level, and the reserve that it then has.
 // The reserves of the operands mean nothing for `in`, which has no operand, and for `out`, which takes its own as it is.
-// The next line asks for the reserve alone: it stands last, where a copy moves it by itself.
 pub struct Choice {
     pub level: u32,
     pub first: i32,

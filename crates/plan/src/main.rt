@@ -6,6 +6,6 @@ fn main() {
     let mut input = io::buffer();
     let n = io::read_full(0, &mut input);
     let mut out = [0u8; 131072];
-    let m = printing::print_plan(&input[..n], &mut out);
+    let m = output::print_plan(&input[..n], &mut out);
     io::write_all(STDOUT_FILENO, &out[..m]);
 }

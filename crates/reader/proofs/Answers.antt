@@ -1,43 +1,41 @@
--- What the reader's answer says of the text: with number 0 its table holds the file that was read and is well formed, else the text is refused
--- so. Assumes nothing.
+-- What the reader's answer says of the text: a table holds the file that was read and is well formed, or the text is refused so. Assumes nothing.
 use Prim.Native.Nat.{ℕ, _≤_}
 use native.Mathlib.Omega.{arith}
-use mathlib.Core.Path.{_≡_, refl, sym, ap, _∙_}
+use mathlib.Core.Path.{_≡_, sym, ap, _∙_}
 use mathlib.Core.List.{List}
-use mathlib.Core.Bool.{Bool, true, false, cond, _&&_}
-use borrow.Author.Tests.{ne-eqb}
-use lib.Dec.{eqb}
 use Rattle.fields.specs.Pieces.{Bytes}
-use Rattle.model.specs.declared.Grammar.the-variants.{Circuit, Schedule}
-use Rattle.text.specs.Tables.{TableFormed, fileOf, RestFree}
-use Rattle.text.specs.declared.Context.{Context}
 use Rattle.rows.specs.Rows.{read, refused}
+use Rattle.model.specs.declared.Grammar.the-variants.{Circuit, Schedule}
+use Rattle.model.specs.declared.Header.{Header}
+use Rattle.text.specs.declared.Context.{Context}
+use Rattle.text.specs.Tables.{TableFormed, fileOf}
 use Rattle.text.specs.Files.{readText, circuitContext, scheduleContext, eraseContext}
 use Rattle.text.proofs.Theorems as Text
-use Rattle.text.proofs.Refusals.{not-zero}
+use Rattle.tables.specs.Records.{held}
 use Rattle.reader.specs.declared.FileRead.{FileRead}
-use Rattle.reader.specs.Reads.{readTable, readingOf}
+use Rattle.reader.specs.declared.FileRead.the-variants.{Table, Refused}
+use Rattle.reader.specs.Reads.{readingOf, Filled}
 
 module _ (c : Context) (text : Bytes) (r : FileRead) (records : List (List ℕ)) (q : readingOf r records ≡ readText c text) where
-  pub read-refused : (r .number ≡ 0 → ⊥) → readText c text ≡ refused (r .number) (r .place)
-  read-refused n = sym q ∙ ap (λ (b : Bool). cond (b && eqb (r .place) 0) (read (fileOf (readTable r records))) (refused (r .number) (r .place))) (ne-eqb (r .number) 0 n)
+  pub read-refused : (n p : ℕ) → r ≡ Refused n p → readText c text ≡ refused n p
+  read-refused n p e = sym q ∙ ap (λ (x : FileRead). readingOf x records) e
 
-  pub read-file : r .number ≡ 0 → readText c text ≡ read (fileOf (readTable r records))
-  read-file z = go (eqb (r .number) 0 && eqb (r .place) 0) refl
-    where
-      go : (b : Bool) → (eqb (r .number) 0 && eqb (r .place) 0) ≡ b → readText c text ≡ read (fileOf (readTable r records))
-      go true e = sym q ∙ ap (λ (b : Bool). cond b (read (fileOf (readTable r records))) (refused (r .number) (r .place))) e
-      go false e =
-          let told : readText c text ≡ refused (r .number) (r .place) =
-          sym q ∙ ap (λ (b : Bool). cond b (read (fileOf (readTable r records))) (refused (r .number) (r .place))) e in
-          absurd (not-zero (Text.refusals .refusal c text (r .number) (r .place) told .number) z)
+  pub read-file : (h : Header) (count : ℕ) → r ≡ Table h count → readText c text ≡ read (fileOf (held h records count))
+  read-file h count e = sym q ∙ ap (λ (x : FileRead). readingOf x records) e
 
-module _ (text : Bytes) (r : FileRead) (records : List (List ℕ)) (free : RestFree (readTable r records)) (z : r .number ≡ 0) where
-  pub circuit-formed : readingOf r records ≡ readText circuitContext text → r .count ≤ 256 → TableFormed Circuit (readTable r records)
-  circuit-formed q few = Text.text-and-table .circuits .table-read text (readTable r records) free (omega arith) (read-file circuitContext text r records q z)
+pub few-read : (limit : ℕ) (r : FileRead) (records : List (List ℕ)) (h : Header) (count : ℕ) → r ≡ Table h count → Filled limit r records → count ≤ limit
+few-read limit r records h count e f = f .few h count e
 
-  pub schedule-formed : readingOf r records ≡ readText scheduleContext text → r .count ≤ 1792 → TableFormed Schedule (readTable r records)
-  schedule-formed q few = Text.text-and-table .schedules .table-read text (readTable r records) free few (read-file scheduleContext text r records q z)
+module _ (text : Bytes) (r : FileRead) (records : List (List ℕ)) (h : Header) (count : ℕ) (e : r ≡ Table h count) where
+  pub circuit-formed : readingOf r records ≡ readText circuitContext text → Filled 256 r records → TableFormed Circuit (held h records count)
+  circuit-formed q f =
+      let few = f .few h count e in
+      Text.text-and-table .circuits .table-read text (held h records count) (f .free h count e) (omega arith) (read-file circuitContext text r records q h count e)
 
-  pub erasing-formed : readingOf r records ≡ readText eraseContext text → r .count ≤ 1792 → TableFormed Schedule (readTable r records)
-  erasing-formed q few = Text.text-and-table .erasing .table-read text (readTable r records) free few (read-file eraseContext text r records q z)
+  pub schedule-formed : readingOf r records ≡ readText scheduleContext text → Filled 1792 r records → TableFormed Schedule (held h records count)
+  schedule-formed q f =
+      Text.text-and-table .schedules .table-read text (held h records count) (f .free h count e) (f .few h count e) (read-file scheduleContext text r records q h count e)
+
+  pub erasing-formed : readingOf r records ≡ readText eraseContext text → Filled 1792 r records → TableFormed Schedule (held h records count)
+  erasing-formed q f =
+      Text.text-and-table .erasing .table-read text (held h records count) (f .free h count e) (f .few h count e) (read-file eraseContext text r records q h count e)

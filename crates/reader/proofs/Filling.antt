@@ -6,16 +6,15 @@ use mathlib.Core.Path.{_≡_, refl, sym, ap, ap₂, _∙_, subst}
 use mathlib.Core.Bool.{Bool, true, false, cond, not}
 use mathlib.Core.List.{List, [], _∷_, _++_}
 use borrow.Author.Needs.{needs}
-use borrow.Author.Tests.{ne-eqb}
 use lib.Dec.{T}
 use lib.IntN.{pos}
-use lib.ListN.{length, drop, set, length-map, length-drop, length-set, drop-of-length-le}
+use lib.ListN.{length, drop, set, length-drop, length-set, drop-of-length-le}
 use lib.Seq.{length-take-le, drop-drop}
 use Rattle.fields.specs.Pieces.{Bytes}
 use Rattle.rows.specs.Lines.{linesOf}
 use mathlib.Core.Option.{Option·map}
 use Rattle.rows.specs.Rows as Rows
-use Rattle.rows.specs.Rows.{placeOf, Judgement, good, bad, Reading, read, refused, formed, readLine}
+use Rattle.rows.specs.Rows.{placeOf, Judgement, good, bad, Reading, read, refused, formed}
 use Rattle.rows.proofs.RowLaws.{read-is}
 use Rattle.model.specs.declared.Grammar.the-variants.{Circuit}
 use Rattle.model.specs.declared.Header.{Header}
@@ -23,13 +22,13 @@ use Rattle.model.specs.declared.Line.{Line}
 use Rattle.model.specs.declared.Word.{Word}
 use Rattle.model.specs.declared.Word.the-variants.{Rot}
 use Rattle.model.specs.Scales.{headerInRange}
-use Rattle.model.specs.Words.{entry, sameWord, hasWord}
+use Rattle.model.specs.Words.{entry, hasWord}
+use Rattle.model.specs.Numbering.{sameWord}
 use Rattle.model.specs.Files.{File, lineOf, lineTests}
 use Rattle.text.specs.declared.Context.{Context}
 use Rattle.text.specs.Tables.{RestFree}
 use Rattle.text.specs.Files.{keptCount, tooMany, lineForm}
 use Rattle.text.proofs.FileLaws.{has-room, kept-most}
-use Rattle.text.proofs.Refusals as Refusals
 use Rattle.forms.specs.Along.{lineIn, isClosed, afterLine, numbersIn}
 use Rattle.forms.proofs.TextLaws.{Past, past-line}
 use Rattle.tables.specs.Records as Records
@@ -42,8 +41,8 @@ use Rattle.lines.specs.declared.LineRead.{LineRead}
 use Rattle.lines.specs.declared.LineRead.the-variants.{Good, Bad}
 use Rattle.lines.specs.Lines.{lineRead, lineTo, wordJudged, lineJudged}
 use Rattle.lines.proofs.LineLaws.{line-by-word, line-past-word}
-use Rattle.reader.specs.declared.FileRead.{FileRead}
-use Rattle.reader.specs.Reads.{pastLimits, keptWith, nextLine, restFrom, readingOf}
+use Rattle.reader.specs.declared.FileRead.the-variants.{Table, Refused}
+use Rattle.reader.specs.Reads.{pastLimits, keptWith, nextLine, restFrom, readingOf, Filled}
 use Rattle.reader.proofs.LineLaws.{kept-more, too-many-by, no-line, one-line}
 
 -- The loop's invariant: with the lines of the records read and the text from `at` on left, reading comes to what the whole text comes to.
@@ -76,17 +75,6 @@ taken-line place end (good y) e =
     record { judged = ap (λ (q : Line × ℕ). good (q .0)) (sym (read-is e)); where-it-ends = ap (λ (q : Line × ℕ). q .1) (read-is e) }
 taken-line place end (bad n) e = absurd (let z : _≡_ {A = ℕ} 0 1 = cc in omega arith)
 
--- the number of a line that is refused is never 0, so that 0 can stand for a file
-line-number :
-    (c : Context) (h : Header) (done : List Line) (t : Bytes) → tooMany c done (lineIn t) ≡ false → {n : ℕ} → lineJudged (c .grammar) h done t ≡ bad n → n ≡ 0 → ⊥
-unfolding lineJudged readLine
-line-number c h done t few {n} e = go (isClosed t) e
-  where
-    go : (b : Bool) → cond b (formed (lineForm .reads (lineIn t)) (lineTests (c .grammar) h done)) (bad 1) ≡ bad n → n ≡ 0 → ⊥
-    go true v = Refusals.not-zero
-        (Refusals.line-number c h done (lineIn t) (ap (λ (b : Bool). cond b (bad 3) (formed (lineForm .reads (lineIn t)) (lineTests (c .grammar) h done))) few ∙ v))
-    go false v = λ z. let one : 1 ≡ n = cc in omega arith
-
 -- a line that is taken has a word of the file, and is closed
 taken-word : (c : Context) (h : Header) (done : List Line) (w : Word) (t : Bytes) {x : Line} → wordJudged (c .grammar) h done w t ≡ good x → T (hasWord (c .grammar) w)
 unfolding wordJudged
@@ -104,10 +92,24 @@ taken-closed c h done t {x} e = go (isClosed t) e
     go true v = refl
     go false v = absurd (let z : _≡_ {A = ℕ} 0 1 = cc in omega arith)
 
--- what an answer with a number says
-pub refused-is :
-    (r : FileRead) (records : List (List ℕ)) (n p : ℕ) → r .number ≡ n → r .place ≡ p → (n ≡ 0 → ⊥) → readingOf r records ≡ refused n p
-refused-is r records n p number place some = rw (number, place, ne-eqb n 0 some)
+-- ---- what is said of the records at a return
+pub filled-table :
+    (limit : ℕ) (h : Header) (records : List (List ℕ)) (count : ℕ) → count ≤ limit → RestFree (Records.held h records count) → Filled limit (Table h count) records
+filled-table limit h records count few free =
+    record {
+      few = λ k n e. let same : count ≡ n = cc in omega arith;
+      free = λ k n e.
+          let headers : h ≡ k = cc in
+          let counts : count ≡ n = cc in
+          subst (λ (x : Header). RestFree (Records.held x records n)) headers (subst (λ (m : ℕ). RestFree (Records.held h records m)) counts free);
+    }
+
+pub filled-refused : (limit n place : ℕ) (records : List (List ℕ)) → Filled limit (Refused n place) records
+filled-refused limit n place records =
+    record {
+      few = λ h count e. absurd (let z : _≡_ {A = ℕ} 0 1 = cc in omega arith);
+      free = λ h count e. absurd (let z : _≡_ {A = ℕ} 0 1 = cc in omega arith);
+    }
 
 pub begin :
     (c : Context) (h : Header) (s : Bytes) (start : ℕ) (records : List (List ℕ)) → T (headerInRange h) → c .limit ≤ 1792 → start ≤ length s → records ≡ freeRecords →
@@ -141,7 +143,7 @@ module _ {c : Context} {h : Header} {s : Bytes} {start : ℕ} {records : List (L
   few-lines = f .few
 
   -- no text is left: the table is the file
-  pub all-read : length s ≤ at → readingOf (record { number = 0; place = 0; header = h; count = count }) records ≡ restFrom c h [] (linesOf (drop start s))
+  pub all-read : length s ≤ at → readingOf (Table h count) records ≡ restFrom c h [] (linesOf (drop start s))
   all-read end =
       sym (no-line c h (linesHeld records count)) ∙ ap (λ (rest : Bytes). restFrom c h (linesHeld records count) (linesOf rest)) (sym (drop-of-length-le s end)) ∙ f .left
 
@@ -160,7 +162,7 @@ module _ {c : Context} {h : Header} {s : Bytes} {start : ℕ} {records : List (L
         ∙ ap (λ (n : ℕ). Rows.at (placeOf n) (nextLine c h (linesHeld records count) (drop at s)) after) lines-held
 
     -- one line too many
-    pub too-many : over ≡ true → readingOf (record { number = 3; place = count + 2; header = h; count = count }) records ≡ restFrom c h [] (linesOf (drop start s))
+    pub too-many : over ≡ true → readingOf (Refused 3 (count + 2)) records ≡ restFrom c h [] (linesOf (drop start s))
     unfolding nextLine
     too-many e =
         let next : nextLine c h (linesHeld records count) (drop at s) ≡ bad 3 = rw (limits, e) in
@@ -179,14 +181,12 @@ module _ {c : Context} {h : Header} {s : Bytes} {start : ℕ} {records : List (L
       within-limits = limits ∙ within
 
       -- a line that is refused
-      pub line-refused : (n p : ℕ) → got ≡ Bad n p → readingOf (record { number = n; place = p; header = h; count = count }) records ≡ restFrom c h [] (linesOf (drop start s))
+      pub line-refused : (n p : ℕ) → got ≡ Bad n p → readingOf (Refused n p) records ≡ restFrom c h [] (linesOf (drop start s))
       line-refused n p e =
           let line = refused-line (placeOf count) (end + length (lineIn (drop end s)) + 1) (wordJudged (c .grammar) h (linesHeld records count) w (drop end s))
           (sym (ap (lineRead w) e) ∙ told) in
           let next : nextLine c h (linesHeld records count) (drop at s) ≡ bad n = next-by-word ∙ line .judged in
-          refused-is (record { number = n; place = p; header = h; count = count }) records n p refl refl
-          (line-number c h (linesHeld records count) (drop at s) within-limits (sym next-judged ∙ next))
-          ∙ sym (reading ∙ ap (λ (j : Judgement Line). Rows.at (placeOf count) j after) next ∙ ap (refused n) (sym (line .where-it-is)))
+          sym (reading ∙ ap (λ (j : Judgement Line). Rows.at (placeOf count) j after) next ∙ ap (refused n) (sym (line .where-it-is)))
 
       module _ (a b d e : ℕ) (good-line : got ≡ Good a b d e) where
         line : TakenLine (end + length (lineIn (drop end s)) + 1) e (lineWith w a b d) (wordJudged (c .grammar) h (linesHeld records count) w (drop end s))
@@ -250,4 +250,4 @@ module _ {c : Context} {h : Header} {s : Bytes} {start : ℕ} {records : List (L
                     ∙ sym (reading ∙ ap (λ (j : Judgement Line). Rows.at (placeOf count) j after) next);
               }
 
-pub ruleset filling-laws = (needs, begin, header-ranged, rest-free, still-long, few-lines, all-read, too-many, line-refused, line-room)
+pub ruleset filling-laws = (needs, begin, header-ranged, rest-free, still-long, few-lines, all-read, too-many, line-refused, line-room, filled-table, filled-refused)

@@ -1,8 +1,7 @@
 -- A whole text by its header line: one law for each return of the code, its premises what the callees ensure. Assumes nothing.
 use Prim.Native.Nat.{ℕ, suc, _+_, _≤_}
-use native.Mathlib.Numerals.{add-one}
 use native.Mathlib.Omega.{arith}
-use mathlib.Core.Path.{_≡_, refl, sym, ap, _∙_, subst}
+use mathlib.Core.Path.{_≡_, refl, sym, ap, _∙_}
 use mathlib.Core.Bool.{Bool, true, false, cond}
 use mathlib.Core.List.{List, [], _∷_}
 use borrow.Author.Needs.{needs}
@@ -11,28 +10,25 @@ use lib.ListN.{length, drop}
 use Rattle.fields.specs.Pieces.{Bytes}
 use Rattle.rows.specs.Lines.{linesOf}
 use Rattle.rows.specs.Rows as Rows
-use Rattle.rows.specs.Rows.{Judgement, good, bad, read, refused, formed, readHeader}
+use Rattle.rows.specs.Rows.{Judgement, good, bad, read, refused, readHeader}
 use Rattle.rows.proofs.RowLaws.{read-is}
 use Rattle.model.specs.declared.Header.{Header}
 use Rattle.model.specs.Scales.{headerInRange}
 use Rattle.model.proofs.Tests.{header-passes}
 use Rattle.text.specs.declared.Context.{Context}
-use Rattle.text.specs.Tables.{RestFree}
 use Rattle.text.specs.Files as Files
 use Rattle.text.specs.Files.{readText}
 use Rattle.text.proofs.FileLaws.{header-read-written}
-use Rattle.text.proofs.Refusals as Refusals
 use Rattle.forms.specs.Along.{lineIn, isClosed, afterLine}
 use Rattle.forms.proofs.TextLaws.{Past, past-line}
-use Rattle.tables.specs.Records.{freeRecords}
-use Rattle.tables.proofs.Records.{none-stored}
 use Rattle.lines.specs.declared.headers.HeaderRead.{HeaderRead}
 use Rattle.lines.specs.declared.headers.HeaderRead.the-variants.{Head, Bad}
 use Rattle.lines.specs.Lines.{headerRead, headerTo, headerJudged}
 use Rattle.reader.specs.declared.FileRead.{FileRead}
-use Rattle.reader.specs.Reads.{restFrom, readTable, readingOf}
+use Rattle.reader.specs.declared.FileRead.the-variants.{Refused}
+use Rattle.reader.specs.Reads.{restFrom, readingOf}
 use Rattle.reader.proofs.LineLaws.{header-line}
-use Rattle.reader.proofs.Filling.{refused-is}
+use Rattle.reader.proofs.Filling.{filled-refused}
 
 -- ---- what an answer says of the header line
 record RefusedHeader (n p : ℕ) (j : Judgement Header) : Type 0 where
@@ -52,15 +48,6 @@ taken-header end (good y) e =
     record { judged = ap (λ (q : Header × ℕ). good (q .0)) (sym (read-is e)); where-it-ends = ap (λ (q : Header × ℕ). q .1) (read-is e) }
 taken-header end (bad n) e = absurd (let z : _≡_ {A = ℕ} 0 1 = cc in omega arith)
 
--- a refusal's number is never 0
-header-number : (c : Context) (t : Bytes) {n : ℕ} → headerJudged (c .grammar) t ≡ bad n → n ≡ 0 → ⊥
-unfolding headerJudged
-header-number c t {n} e = go (isClosed t) e
-  where
-    go : (b : Bool) → cond b (readHeader (Files.format c) (lineIn t)) (bad 1) ≡ bad n → n ≡ 0 → ⊥
-    go true v = Refusals.not-zero (Refusals.header-number c (lineIn t) v)
-    go false v = λ z. let one : 1 ≡ n = cc in omega arith
-
 -- a header that is read is in range, and its line closed
 record HeaderTaken (t : Bytes) (h : Header) : Type 0 where
   closes : isClosed t ≡ true
@@ -75,11 +62,10 @@ header-taken c t {h} e = go (isClosed t) refl e
     go false q v = absurd (let z : _≡_ {A = ℕ} 0 1 = cc in omega arith)
 
 module _ (c : Context) (t : Bytes) (records : List (List ℕ)) (got : HeaderRead) (told : headerRead got ≡ headerTo (length (lineIn t) + 1) (headerJudged (c .grammar) t)) where
-  pub header-refused : (r : FileRead) (n p : ℕ) → got ≡ Bad n p → r .number ≡ n → r .place ≡ p → readingOf r records ≡ readText c t
-  header-refused r n p e number place =
+  pub header-refused : (n p : ℕ) → got ≡ Bad n p → readingOf (Refused n p) records ≡ readText c t
+  header-refused n p e =
       let header = refused-header (length (lineIn t) + 1) (headerJudged (c .grammar) t) (sym (ap headerRead e) ∙ told) in
-      refused-is r records n p number place (header-number c t (header .judged))
-      ∙ sym (header-line c t ∙ ap (λ (j : Judgement Header). Rows.at 1 j (λ h. restFrom c h [] (linesOf (afterLine t)))) (header .judged)
+      sym (header-line c t ∙ ap (λ (j : Judgement Header). Rows.at 1 j (λ h. restFrom c h [] (linesOf (afterLine t)))) (header .judged)
       ∙ ap (refused n) (sym (header .where-it-is)))
 
   module _ (h : Header) (end : ℕ) (e : got ≡ Head h end) where
@@ -102,8 +88,4 @@ module _ (c : Context) (t : Bytes) (records : List (List ℕ)) (got : HeaderRead
         q ∙ sym (header-line c t ∙ ap (λ (j : Judgement Header). Rows.at 1 j (λ k. restFrom c k [] (linesOf (afterLine t)))) (header .judged)
         ∙ ap (λ (u : Bytes). restFrom c h [] (linesOf u)) there)
 
--- a refusal's records are as they were
-pub nothing-read : (r : FileRead) (records : List (List ℕ)) → records ≡ freeRecords → r .count ≡ 0 → RestFree (readTable r records)
-nothing-read r records free none = rw none (none-stored (r .header) records free)
-
-pub ruleset file-laws = (needs, header-refused, header-ranged, header-within, lines-read, nothing-read)
+pub ruleset file-laws = (needs, header-refused, header-ranged, header-within, lines-read, filled-refused)

@@ -1,8 +1,9 @@
 -- Reading one line more, and what an answer says.
-use Prim.Native.Nat.{ℕ, _+_}
-use mathlib.Core.Bool.{Bool, true, cond, _&&_, _||_}
+use Prim.Native.Nat.{ℕ, _+_, _≤_}
+use mathlib.Core.Bool.{Bool, cond, _&&_, _||_}
 use mathlib.Core.List.{List}
-use lib.Dec.{eqb, leb}
+use mathlib.Core.Path.{_≡_}
+use lib.Dec.{leb}
 use Rattle.fields.specs.Pieces.{Bytes}
 use Rattle.rows.specs.Lines.{Lines, lines}
 use Rattle.rows.specs.Rows.{Judgement, bad, Reading, read, refused, onward, rowsFrom, ended}
@@ -10,12 +11,13 @@ use Rattle.model.specs.declared.Header.{Header}
 use Rattle.model.specs.declared.Line.{Line}
 use Rattle.model.specs.Files.{File}
 use Rattle.text.specs.declared.Context.{Context}
-use Rattle.text.specs.Tables.{Table, fileOf}
+use Rattle.text.specs.Tables.{fileOf, RestFree}
 use Rattle.text.specs.Files.{tooMany, format}
 use Rattle.forms.specs.Along.{lineIn}
 use Rattle.tables.specs.Records.{held}
 use Rattle.lines.specs.Lines.{lineJudged}
 use Rattle.reader.specs.declared.FileRead.{FileRead}
+use Rattle.reader.specs.declared.FileRead.the-variants.{Table, Refused}
 
 -- "3 more lines than allowed", after so many lines, so many of them with a circuit's word; `begins` says whether this one's first
 -- field is one too
@@ -34,10 +36,12 @@ nextLine c h done t = cond (tooMany c done (lineIn t)) (bad 3) (lineJudged (c .g
 abbrev pub restFrom : Context → Header → List Line → Lines → Reading File
 restFrom c h done (lines ps rest) = onward (rowsFrom (format c) h done ps) (λ rows. ended (format c) h rows rest)
 
--- the table that an answer and the filled records make up
-abbrev pub readTable : FileRead → List (List ℕ) → Table
-readTable r records = held (r .header) records (r .count)
-
--- what an answer says: a file where number and place are 0
+-- what an answer says, with the records that were filled: the file that they hold, or the refusal
 abbrev pub readingOf : FileRead → List (List ℕ) → Reading File
-readingOf r records = cond (eqb (r .number) 0 && eqb (r .place) 0) (read (fileOf (readTable r records))) (refused (r .number) (r .place))
+readingOf (Table h count) records = read (fileOf (held h records count))
+readingOf (Refused n place) records = refused n place
+
+-- of a table that was read: no more lines than the limit, and every record past them free
+pub record Filled (limit : ℕ) (r : FileRead) (records : List (List ℕ)) : Type 0 where
+  pub few : (h : Header) (count : ℕ) → r ≡ Table h count → count ≤ limit
+  pub free : (h : Header) (count : ℕ) → r ≡ Table h count → RestFree (held h records count)

@@ -4,6 +4,7 @@ use lines::headers::HeaderRead;
 use model::Grammar;
 use model::Header;
 use model::Word;
+use tables::Record;
 use text::Context;
 ghost use mathlib.Core.Path.{_≡_};
 ghost use mathlib.Core.List.{[]};
@@ -14,10 +15,9 @@ ghost use Rattle.rows.specs.Lines.{linesOf};
 ghost use Rattle.model.specs.declared.Grammar.the-variants.{Circuit};
 ghost use Rattle.model.specs.Scales.{headerInRange};
 ghost use Rattle.model.specs.Words.{hasWord};
-ghost use Rattle.text.specs.Tables.{RestFree};
 ghost use Rattle.text.specs.Files.{readText, circuitContext, scheduleContext, eraseContext};
 ghost use Rattle.tables.specs.Records.{freeRecords};
-ghost use Rattle.reader.specs.Reads.{pastLimits, keptWith, restFrom, readTable, readingOf};
+ghost use Rattle.reader.specs.Reads.{pastLimits, keptWith, restFrom, readingOf, Filled};
 
 // How many lines have a circuit's word, with one that has this word.
 fn kept_with(kept: usize, word: Word) -> usize
@@ -43,13 +43,10 @@ fn past_limits(context: Context, count: usize, kept: usize, word: Word) -> bool
     words::is_kept(word)
 }
 
-// What reading a file comes to: with number and place 0 its header and how many lines there are, else a refusal, whose header and count mean
-// nothing. The lines stand in the records that are lent.
-pub struct FileRead {
-    pub number: u32,
-    pub place: u32,
-    pub header: Header,
-    pub count: usize,
+// What reading a file comes to: the table's header and how many lines there are, which stand in the records that are lent; or a refusal.
+pub enum FileRead {
+    Table { header: Header, count: usize },
+    Refused { number: u32, place: u32 },
 }
 
 // The lines from `start` on, into records that are free.
@@ -58,15 +55,14 @@ fn read_lines(
     header: Header,
     text: &[u8],
     start: usize,
-    records: &mut [[u16; 4]],
+    records: &mut [Record],
 ) -> FileRead
     requires { ⌜ T (headerInRange header) ⌝ }
     requires { ⌜ context .limit ≤ 1792 ⌝ }
     requires { ⌜ start ≤ length (now text) ⌝ }
     requires { ⌜ now records ≡ freeRecords ⌝ }
     ensures { λ r. ⌜ readingOf r (now (records .exit)) ≡ restFrom context header [] (linesOf (drop start (now (text .entry)))) ⌝ }
-    ensures room { λ r. ⌜ RestFree (readTable r (now (records .exit))) ⌝ }
-    ensures few { λ r. ⌜ r .count ≤ context .limit ⌝ }
+    ensures filled { λ r. ⌜ Filled (context .limit) r (now (records .exit)) ⌝ }
 {
     let grammar = context.grammar;
     let mut count: usize = 0;
@@ -75,78 +71,43 @@ fn read_lines(
     while at < text.len() {
         let first = words::word_at(text, at);
         let word = first.word;
+        let number = tables::number_of(word);
         if past_limits(context, count, kept, word) {
-            return FileRead {
-                number: 3,
-                place: (count as u32) + 2,
-                header,
-                count,
-            };
+            let place = (count as u32) + 2;
+            return FileRead::Refused { number: 3, place };
         }
         match lines::read_line(grammar, header, records, count, text, word, first.end) {
-            LineRead::Bad { number, place } => {
-                return FileRead {
-                    number,
-                    place,
-                    header,
-                    count,
-                };
-            }
+            LineRead::Bad { number, place } => return FileRead::Refused { number, place },
             LineRead::Good { a, b, c, end } => {
-                records[count] = [tables::number_of(word), a, b, c];
+                records[count] = [number, a, b, c];
                 count += 1;
                 kept = kept_with(kept, word);
                 at = end;
             }
         }
     }
-    FileRead {
-        number: 0,
-        place: 0,
-        header,
-        count,
-    }
-}
-
-// A refusal, with a header that means nothing.
-fn refusal(number: u32, place: u32) -> FileRead
-    ensures { λ r. ⌜ r .number ≡ number ⌝ }
-    ensures { λ r. ⌜ r .place ≡ place ⌝ }
-    ensures { λ r. ⌜ r .count ≡ 0 ⌝ }
-{
-    FileRead {
-        number,
-        place,
-        header: Header {
-            factor: 1,
-            waterline: 1,
-            top: 1,
-        },
-        count: 0,
-    }
+    FileRead::Table { header, count }
 }
 
 // A whole text: its header line, then its lines, into records that are free.
-pub fn read_file(context: Context, text: &[u8], records: &mut [[u16; 4]]) -> FileRead
+pub fn read_file(context: Context, text: &[u8], records: &mut [Record]) -> FileRead
     requires { ⌜ context .limit ≤ 1792 ⌝ }
     requires { ⌜ now records ≡ freeRecords ⌝ }
     ensures { λ r. ⌜ readingOf r (now (records .exit)) ≡ readText context (now (text .entry)) ⌝ }
-    ensures room { λ r. ⌜ RestFree (readTable r (now (records .exit))) ⌝ }
-    ensures few { λ r. ⌜ r .count ≤ context .limit ⌝ }
+    ensures filled { λ r. ⌜ Filled (context .limit) r (now (records .exit)) ⌝ }
 {
     let grammar = context.grammar;
     match lines::headers::read_header(grammar, text) {
-        HeaderRead::Bad { number, place } => refusal(number, place),
+        HeaderRead::Bad { number, place } => FileRead::Refused { number, place },
         HeaderRead::Head { header, end } => read_lines(context, header, text, end, records),
     }
 }
 
 // A circuit.
-pub fn read_circuit(text: &[u8], records: &mut [[u16; 4]]) -> FileRead
+pub fn read_circuit(text: &[u8], records: &mut [Record]) -> FileRead
     requires { ⌜ now records ≡ freeRecords ⌝ }
     ensures { λ r. ⌜ readingOf r (now (records .exit)) ≡ readText circuitContext (now (text .entry)) ⌝ }
-    ensures room { λ r. ⌜ RestFree (readTable r (now (records .exit))) ⌝ }
-    ensures few { λ r. ⌜ r .count ≤ 256 ⌝ }
+    ensures filled { λ r. ⌜ Filled 256 r (now (records .exit)) ⌝ }
 {
     let context = Context {
         grammar: Grammar::Circuit,
@@ -157,11 +118,10 @@ pub fn read_circuit(text: &[u8], records: &mut [[u16; 4]]) -> FileRead
 }
 
 // A schedule.
-pub fn read_schedule(text: &[u8], records: &mut [[u16; 4]]) -> FileRead
+pub fn read_schedule(text: &[u8], records: &mut [Record]) -> FileRead
     requires { ⌜ now records ≡ freeRecords ⌝ }
     ensures { λ r. ⌜ readingOf r (now (records .exit)) ≡ readText scheduleContext (now (text .entry)) ⌝ }
-    ensures room { λ r. ⌜ RestFree (readTable r (now (records .exit))) ⌝ }
-    ensures few { λ r. ⌜ r .count ≤ 1792 ⌝ }
+    ensures filled { λ r. ⌜ Filled 1792 r (now (records .exit)) ⌝ }
 {
     let context = Context {
         grammar: Grammar::Schedule,
@@ -172,11 +132,10 @@ pub fn read_schedule(text: &[u8], records: &mut [[u16; 4]]) -> FileRead
 }
 
 // A schedule that is to be erased: a 257th line that would be kept is one too many.
-pub fn read_erase(text: &[u8], records: &mut [[u16; 4]]) -> FileRead
+pub fn read_erase(text: &[u8], records: &mut [Record]) -> FileRead
     requires { ⌜ now records ≡ freeRecords ⌝ }
     ensures { λ r. ⌜ readingOf r (now (records .exit)) ≡ readText eraseContext (now (text .entry)) ⌝ }
-    ensures room { λ r. ⌜ RestFree (readTable r (now (records .exit))) ⌝ }
-    ensures few { λ r. ⌜ r .count ≤ 1792 ⌝ }
+    ensures filled { λ r. ⌜ Filled 1792 r (now (records .exit)) ⌝ }
 {
     let context = Context {
         grammar: Grammar::Schedule,

@@ -15,15 +15,17 @@ use Rattle.model.specs.declared.Grammar.{Grammar}
 use Rattle.model.specs.declared.Header.{Header}
 use Rattle.model.specs.declared.Answer.{Answer}
 use Rattle.model.specs.declared.Answer.the-variants.{Done, Level, Refused}
-use Rattle.model.specs.Refused.{answerFile}
+use Rattle.model.specs.Answers.{answerFile}
 use Rattle.text.specs.Tables.{fileOf}
 use Rattle.text.specs.Files.{fileText}
 use Rattle.text.proofs.Tables.{count-length}
 use Rattle.text.proofs.Most.{text-most}
 use Rattle.tables.specs.Records.{lineOf, held}
-use Rattle.writer.specs.Put.{Written, Counted}
+use Rattle.spelling.specs.Put.{Counted}
+use Rattle.writer.specs.Writing.{Written}
 use Rattle.services.specs.declared.Reply.{Reply}
-use Rattle.services.specs.Outcomes.{Outcome, writes, refuses, answered, replyOf, Replied}
+use Rattle.services.specs.Outcomes.{Outcome, writes, refuses, replyOf, Replied}
+use Rattle.services.specs.Calls.{answered}
 
 -- ---- the file at fault
 module _ (file n p : ℕ) where

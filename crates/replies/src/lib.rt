@@ -3,16 +3,18 @@ use model::Answer;
 use model::Grammar;
 use model::Header;
 use services::Reply;
+use tables::Record;
 ghost use mathlib.Core.Path.{_≡_};
 ghost use Prim.Native.Nat.{_≤_};
 ghost use lib.Dec.{leb};
 ghost use lib.ListN.{length};
-ghost use Rattle.model.specs.Refused.{answerFile};
+ghost use Rattle.model.specs.Answers.{answerFile};
 ghost use Rattle.model.specs.declared.Answer.the-variants.{Refused};
 ghost use Rattle.tables.specs.Records.{held};
 ghost use Rattle.text.specs.Tables.{fileOf};
 ghost use Rattle.text.specs.Files.{fileText};
-ghost use Rattle.services.specs.Outcomes.{writes, refuses, answered, replyOf, Replied};
+ghost use Rattle.services.specs.Outcomes.{writes, refuses, replyOf, Replied};
+ghost use Rattle.services.specs.Calls.{answered};
 
 pub fn refusal(number: u32, file: u32, place: u32) -> Reply
     ensures { λ r. ⌜ r ≡ replyOf (refuses number file place) ⌝ }
@@ -61,7 +63,7 @@ fn bytes_needed(
     room: usize,
     grammar: Grammar,
     header: Header,
-    records: &[[u16; 4]],
+    records: &[Record],
     count: usize,
 ) -> usize
     requires { ⌜ length (now records) ≡ 1792 ⌝ }
@@ -80,7 +82,7 @@ pub fn lend(
     out: &mut [u8],
     grammar: Grammar,
     header: Header,
-    records: &[[u16; 4]],
+    records: &[Record],
     count: usize,
 ) -> Reply
     requires { ⌜ length (now records) ≡ 1792 ⌝ }

@@ -1,12 +1,46 @@
 -- What the walk over a circuit comes to.
-use Prim.Native.Nat.{ℕ}
+use Prim.Native.Nat.{ℕ, _+_, _<_}
 use mathlib.Core.Bool.{cond}
-use lib.Dec.{eqb}
-use Rattle.model.specs.declared.Best.{Best}
-use Rattle.model.specs.Machine.{Run, finished, stopped}
-use Rattle.tables.specs.Bests.{bestsOf}
+use mathlib.Core.List.{List, [], _∷_, _++_}
+use mathlib.Core.Path.{_≡_}
+use lib.Dec.{T}
+use lib.IntN.{ℤ, pos}
+use lib.ListN.{length, take}
+use lib.Signed.{ltZ}
+use Rattle.model.specs.declared.Grammar.the-variants.{Circuit}
+use Rattle.model.specs.declared.Header.{Header}
+use Rattle.model.specs.Files.{wellFormed}
+use Rattle.model.specs.Machine.{Step, goes, stops, Run, finished, stopped}
+use Rattle.model.specs.Scales.{headroom}
+use Rattle.tables.specs.Bests.{reservesRun}
+use Rattle.tables.specs.Records.{linesHeld}
 use Rattle.reserves.specs.declared.Walked.{Walked}
+use Rattle.reserves.specs.declared.Walked.the-variants as Walks
+use Rattle.reserves.specs.declared.LineReserve.{LineReserve}
+use Rattle.reserves.specs.declared.LineReserve.the-variants.{Leaves, TooFew}
 
--- with number 0 every line was walked; else that line stopped the walk, and the number says why
-abbrev pub walkOf : Walked → ℕ → Run Best ℕ
-walkOf w count = cond (eqb (w .number) 0) (finished (bestsOf count (w .known))) (stopped (w .line) (w .number))
+-- held: the best reserves of the lines that were walked. "6 too few levels"
+abbrev pub walkOf : Walked → List ℤ → Run ℤ ℕ
+walkOf Walks.Fits held = finished held
+walkOf (Walks.TooFew line) held = stopped line 6
+
+-- what a line comes to, as a step
+abbrev pub stepOf : LineReserve → Step ℤ ℕ
+stepOf (Leaves r) = goes r
+stepOf TooFew = stops 6
+
+-- "The best reserve may come out below zero; then the circuit is refused at that line."
+abbrev pub unlessTooLow : Header → ℤ → Step ℤ ℕ
+unlessTooLow h r = cond (ltZ r (pos (headroom h))) (stops 6) (goes r)
+
+-- one line more, the i-th
+abbrev pub oneMore : ℕ → List ℤ → Step ℤ ℕ → Run ℤ ℕ
+oneMore i held (goes r) = finished (held ++ (r ∷ []))
+oneMore i held (stops n) = stopped i n
+
+-- The best reserves of the first i lines of a circuit are known, and it has a line more.
+pub record KnownTo (h : Header) (records : List (List ℕ)) (reserves : List ℤ) (i : ℕ) : Type 0 where
+  pub some : i < length records
+  pub room : i < length reserves
+  pub formed : T (wellFormed Circuit h (linesHeld records (i + 1)))
+  pub known : reservesRun h (linesHeld records i) ≡ finished (take i reserves)

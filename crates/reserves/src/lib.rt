@@ -1,156 +1,132 @@
 // The best reserve of each line of a circuit.
-pub mod best_steps;
-pub mod choices;
 
-use model::Best;
-use model::Choice;
 use model::Header;
 use model::Line;
-use tables::BestEntry;
+use tables::Record;
 ghost use mathlib.Core.Path.{_≡_};
-ghost use Prim.Native.Nat.{min};
-ghost use lib.ListN.{length};
+ghost use Prim.Native.Nat.{_+_};
+ghost use lib.ListN.{length, take};
 ghost use Rattle.model.specs.declared.Grammar.the-variants.{Circuit};
 ghost use Rattle.text.specs.Tables.{TableFormed};
-ghost use Rattle.model.specs.Machine.{run};
-ghost use Rattle.model.specs.Plan.{bestMachine};
-ghost use Rattle.reserves.specs.Ranges.{HeaderRanges, SmallBest, SmallOperand};
-ghost use Rattle.reserves.specs.Steps.{stepOf, found, bestOf, entryOf, bestAfter};
+ghost use Rattle.tables.specs.Bests.{reservesRun};
 ghost use Rattle.tables.specs.Records.{linesHeld, held};
-ghost use Rattle.tables.specs.Operands.{firstOperand, secondOperand};
-ghost use Rattle.reserves.specs.Walks.{walkOf};
+ghost use Rattle.choices.specs.Ranges.{HeaderRanges};
+ghost use Rattle.reserves.specs.Pairs.{KnownOperand, sumReserve, productReserve};
+ghost use Rattle.reserves.specs.Walks.{walkOf, stepOf, unlessTooLow, oneMore, KnownTo};
 
-// What an operand has: it names no earlier line, or a bare constant, or a ciphertext and how that is done.
-pub enum Operand {
-    Absent,
-    Constant,
-    Ciphertext(Choice),
+// What the walk over a circuit comes to: every line has a best reserve, or this line has too few levels.
+pub enum Walked {
+    Fits,
+    TooFew { line: u32 },
 }
 
-// What a line comes to: the best that it then has, or a stop with its number.
-pub enum Placing {
-    Goes(Best),
-    Stops(u32),
+// What a line comes to: the best reserve that it leaves, 0 for a bare constant, or too few levels.
+pub enum LineReserve {
+    Leaves(i32),
+    TooFew,
 }
 
-// One line, from what its operands have.
-pub fn best_of(header: Header, line: Line, first: Operand, second: Operand) -> Placing
-    requires { ⌜ HeaderRanges header ⌝ }
-    requires { ⌜ SmallOperand first ⌝ }
-    requires { ⌜ SmallOperand second ⌝ }
-    ensures { λ r. ⌜ stepOf r ≡ bestOf header line (found first) (found second) ⌝ }
+// A line whose best reserve is below the headroom has too few levels.
+fn unless_too_low(header: Header, reserve: i32) -> LineReserve
+    ensures { λ r. ⌜ stepOf r ≡ unlessTooLow header reserve ⌝ }
 {
-    match line {
-        Line::In => best_steps::unless_too_few(header, choices::input_choice(header)),
-        Line::Const(_) => Placing::Goes(Best::Constant),
-        Line::Neg(_) => best_steps::best_neg(header, first),
-        Line::Rot(_, _) => best_steps::best_neg(header, first),
-        Line::Add(_, _) => best_steps::best_add(header, first, second),
-        Line::Mul(_, _) => best_steps::best_mul(header, first, second),
-        Line::Out(_) => best_steps::best_out(header, first),
+    if reserve < scales::headroom(header) {
+        return LineReserve::TooFew;
+    }
+    LineReserve::Leaves(reserve)
+}
+
+// ---- one line
+fn sum_reserve(circuit: &[Record], reserves: &[i32], a: u16, b: u16) -> i32
+    requires { ⌜ KnownOperand (now circuit) (now reserves) a ⌝ }
+    requires { ⌜ KnownOperand (now circuit) (now reserves) b ⌝ }
+    ensures { λ r. ⌜ r ≡ sumReserve (now (circuit .entry)) (now (reserves .entry)) a b ⌝ }
+{
+    let first = a as usize;
+    let second = b as usize;
+    if tables::is_constant(circuit, first) {
+        return reserves[second];
+    }
+    if tables::is_constant(circuit, second) {
+        return reserves[first];
+    }
+    choices::smaller_of(reserves[first], reserves[second])
+}
+
+fn product_reserve(header: Header, circuit: &[Record], reserves: &[i32], a: u16, b: u16) -> i32
+    requires { ⌜ HeaderRanges header ⌝ }
+    requires { ⌜ KnownOperand (now circuit) (now reserves) a ⌝ }
+    requires { ⌜ KnownOperand (now circuit) (now reserves) b ⌝ }
+    ensures { λ r. ⌜ r ≡ productReserve header (now (circuit .entry)) (now (reserves .entry)) a b ⌝ }
+{
+    let first = a as usize;
+    let second = b as usize;
+    if tables::is_constant(circuit, first) {
+        return choices::less_waterline(header, reserves[second]);
+    }
+    if tables::is_constant(circuit, second) {
+        return choices::less_waterline(header, reserves[first]);
+    }
+    let choice = choices::product_choice(header, reserves[first], reserves[second]);
+    choice.reserve
+}
+
+// Line i, where the best reserves of the lines before it are known.
+pub fn reserve_of(header: Header, circuit: &[Record], reserves: &[i32], i: usize) -> LineReserve
+    requires { ⌜ KnownTo header (now circuit) (now reserves) i ⌝ }
+    ensures { λ r. ⌜ reservesRun header (linesHeld (now (circuit .entry)) (i + 1)) ≡ oneMore i (take i (now (reserves .entry))) (stepOf r) ⌝ }
+{
+    match tables::line_at(circuit, i) {
+        Line::In => unless_too_low(header, choices::at_waterline(header, header.top)),
+        Line::Const(_) => LineReserve::Leaves(0),
+        Line::Neg(a) => {
+            let first = a as usize;
+            unless_too_low(header, reserves[first])
+        }
+        Line::Rot(a, _) => {
+            let first = a as usize;
+            unless_too_low(header, reserves[first])
+        }
+        Line::Add(a, b) => unless_too_low(header, sum_reserve(circuit, reserves, a, b)),
+        Line::Mul(a, b) => {
+            unless_too_low(header, product_reserve(header, circuit, reserves, a, b))
+        }
+        Line::Out(a) => {
+            let first = a as usize;
+            LineReserve::Leaves(reserves[first])
+        }
+        // No circuit has these words.
         Line::Enc {
             of: _,
             scale: _,
             level: _,
-        } => best_steps::no_circuit_word(first),
-        Line::Rs(_, _) => best_steps::no_circuit_word(first),
-        Line::Ms(_, _) => best_steps::no_circuit_word(first),
-        Line::Us(_, _) => best_steps::no_circuit_word(first),
-        Line::Free => Placing::Stops(4),
+        } => LineReserve::TooFew,
+        Line::Rs(_, _) => LineReserve::TooFew,
+        Line::Ms(_, _) => LineReserve::TooFew,
+        Line::Us(_, _) => LineReserve::TooFew,
+        Line::Free => LineReserve::TooFew,
     }
 }
 
-// What an operand has after `count` lines, where its entry is known.
-fn operand_of(number: u16, count: usize, known: BestEntry) -> Operand
-    ensures { λ r. ⌜ found r ≡ entryOf number count known ⌝ }
-{
-    if count <= (number as usize) {
-        return Operand::Absent;
-    }
-    let best = known.best;
-    match best {
-        Best::Constant => Operand::Constant,
-        Best::Ciphertext(p) => Operand::Ciphertext(p),
-    }
-}
-
-// The line after `count` lines, where the entries of its operands are known. Past those of the lines before, an entry is not asked.
-pub fn best_after(
+// The best reserve of each line, or the first line that has too few levels.
+pub fn best_reserves(
     header: Header,
-    line: Line,
+    circuit: &[Record],
     count: usize,
-    first: BestEntry,
-    second: BestEntry,
-) -> Placing
-    requires { ⌜ HeaderRanges header ⌝ }
-    requires { ⌜ SmallBest (first .best) ⌝ }
-    requires { ⌜ SmallBest (second .best) ⌝ }
-    ensures { λ r. ⌜ stepOf r ≡ bestAfter header line count first second ⌝ }
-{
-    let a = operand_of(tables::first_operand(line), count, first);
-    let b = operand_of(tables::second_operand(line), count, second);
-    best_of(header, line, a, b)
-}
-
-// Where an operand's entry stands among those of `count` lines: just past them where it names none of them.
-fn place_of(number: u16, count: usize) -> usize
-    ensures { λ r. ⌜ r ≡ min number count ⌝ }
-{
-    let place = number as usize;
-    if place < count { place } else { count }
-}
-
-// The places of a line's two operands.
-pub fn first_place(line: Line, count: usize) -> usize
-    ensures { λ r. ⌜ r ≡ min (firstOperand line) count ⌝ }
-{
-    place_of(tables::first_operand(line), count)
-}
-
-pub fn second_place(line: Line, count: usize) -> usize
-    ensures { λ r. ⌜ r ≡ min (secondOperand line) count ⌝ }
-{
-    place_of(tables::second_operand(line), count)
-}
-
-// What the walk over a circuit comes to: with number 0 the best of each line, else the line that stopped it and why.
-pub struct Walked {
-    pub number: u32,
-    pub line: u32,
-    pub known: [BestEntry; 256],
-}
-
-// The best of each line of a circuit, or the first line with a best reserve below zero.
-pub fn best_lines(header: Header, circuit: &[[u16; 4]], count: usize) -> Walked
+    reserves: &mut [i32],
+) -> Walked
     requires { ⌜ TableFormed Circuit (held header (now circuit) count) ⌝ }
-    ensures { λ r. ⌜ walkOf r count ≡ run (bestMachine header) (linesHeld (now (circuit .entry)) count) ⌝ }
-    ensures wide { λ r. ⌜ length (r .known) ≡ 256 ⌝ }
+    requires { ⌜ length (now reserves) ≡ 256 ⌝ }
+    ensures { λ r. ⌜ walkOf r (take count (now (reserves .exit))) ≡ reservesRun header (linesHeld (now (circuit .entry)) count) ⌝ }
+    ensures wide { λ r. ⌜ length (now (reserves .exit)) ≡ 256 ⌝ }
 {
-    let mut known = [BestEntry {
-        best: Best::Constant,
-    }; 256];
     let mut i: usize = 0;
     while i < count {
-        let line = tables::line_at(circuit, i);
-        let a = first_place(line, i);
-        let b = second_place(line, i);
-        match best_after(header, line, i, known[a], known[b]) {
-            Placing::Stops(number) => {
-                return Walked {
-                    number: number,
-                    line: i as u32,
-                    known: known,
-                };
-            }
-            Placing::Goes(best) => {
-                known[i] = BestEntry { best: best };
-                i += 1;
-            }
-        }
+        let LineReserve::Leaves(reserve) = reserve_of(header, circuit, reserves, i) else {
+            return Walked::TooFew { line: i as u32 };
+        };
+        reserves[i] = reserve;
+        i += 1;
     }
-    Walked {
-        number: 0,
-        line: 0,
-        known: known,
-    }
+    Walked::Fits
 }

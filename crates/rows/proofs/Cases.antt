@@ -3,6 +3,7 @@ use Prim.Native.Nat.{ℕ}
 use mathlib.Core.Path.{_≡_, refl}
 use mathlib.Core.Bool.{Bool, true}
 use mathlib.Core.List.{List, [], _∷_, _++_}
+use mathlib.Core.Option.{none, some}
 use lib.Dec.{leb, ltb}
 use lib.IntN.{ℤ, pos, negsuc}
 use lib.ListN.{length, getD}
@@ -10,7 +11,7 @@ use Rattle.ints.specs.Parts.{positive}
 use Rattle.fields.specs.Pieces.{Bytes, tab, lineFeed, split, sameBytes}
 use Rattle.fields.specs.Numbers.{digitsOf, numberOf, amountOf}
 use Rattle.rows.specs.Fields.{Holds, operand, ranged, amount, readFields, allInRange}
-use Rattle.rows.specs.Forms.{titled, Vocabulary, Said, named, worded}
+use Rattle.rows.specs.Forms.{wordless, titled, Vocabulary, Said, named, worded}
 use Rattle.rows.specs.Lines.{linesOf}
 use Rattle.rows.specs.Rows.{Reading, read, refused, Format, File, readLine, rowsFrom, ended, readLines, readFile}
 
@@ -86,6 +87,9 @@ pub record Statement : Type 0 where
   pub range-first : reading (headed ++ t-line 55 54) ≡ refused 11 2
   pub operand-then : reading (headed ++ t-line 55 53) ≡ refused 4 2
   pub line-first : reading (headed ++ t-line 48 53 ++ (120 ∷ lineFeed ∷ [])) ≡ refused 4 2
+  -- lines without a word
+  pub number-alone : wordless (ranged 1 9 ∷ []) .reads (53 ∷ []) ≡ some (pos 5 ∷ [])
+  pub number-after-word : wordless (ranged 1 9 ∷ []) .reads (104 ∷ tab ∷ 53 ∷ []) ≡ none
 
 pub worked : Statement
 unfolding split sameBytes digitsOf numberOf amountOf readFields named linesOf readLine rowsFrom ended readLines readFile
@@ -110,4 +114,6 @@ worked =
       range-first = refl;
       operand-then = refl;
       line-first = refl;
+      number-alone = refl;
+      number-after-word = refl;
     }

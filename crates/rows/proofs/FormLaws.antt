@@ -1,4 +1,4 @@
--- LawfulForm forms: lines that begin with one word, or with one of several, and the same lines as another type. Assumes nothing.
+-- Lawful forms: lines without a word, lines that begin with one word, or with one of several, and the same lines as another type. Assumes nothing.
 use Prim.Native.Nat.{ℕ, _+_, _*_, _<_, _≤_}
 use native.Mathlib.Omega.{arith}
 use mathlib.Core.Path.{_≡_, refl, sym, ap, _∙_, subst}
@@ -14,7 +14,7 @@ use Rattle.fields.proofs.Each as E
 use Rattle.fields.proofs.Each.{Each}
 use Rattle.fields.proofs.PieceLaws.{Without, split-join, join-split, join-without, same-bytes, bytes-same}
 use Rattle.rows.specs.Fields.{Holds, readFields}
-use Rattle.rows.specs.Forms.{Form, saidText, afterWord, titled, Vocabulary, Said, named, saying, followed, readSaid, worded, made}
+use Rattle.rows.specs.Forms.{Form, saidText, wordless, afterWord, titled, Vocabulary, Said, named, saying, followed, readSaid, worded, made}
 use Rattle.rows.proofs.Tests.{and-first, and-second, cond-cases, cond-true}
 use Rattle.rows.proofs.FieldLaws.{some-is, none-some, Held, Fields, Short, fields-written-read, fields-read-written, fields-length, numbers-without}
 use Rattle.rows.proofs.LengthLaws.{fields-most}
@@ -67,6 +67,21 @@ said-back word fs p field fields {ns} cut same e =
     let numbers = length-map ns amountText in
     let described = fields-length (b .held) in
     record { held = b .held; few = omega arith; written = ap (join tab) ((λ i. same i ∷ b .written i) ∙ sym cut) ∙ join-split tab p }
+
+-- ---- lines without a word
+module _ (fs : List Holds) where
+  pub wordless-law : LawfulForm (wordless fs)
+  wordless-law =
+      record {
+        written = λ p ns e. ap (join tab) (fields-read-written fs (split tab p) e .written) ∙ join-split tab p;
+        closed = λ ns. join-without (omega arith) (numbers-without lineFeed (omega arith) ns);
+      }
+
+  pub wordless-forth : {ns : List ℤ} → 1 ≤ length fs → Fields Held fs ns → Each Short ns → wordless fs .reads (wordless fs .text ns) ≡ some ns
+  wordless-forth {ns} some-field held short =
+      let count = fields-length held in
+      let numbers = length-map ns amountText in
+      ap (readFields fs) (split-join tab (omega arith) (numbers-without tab (omega arith) ns)) ∙ fields-written-read held short
 
 -- ---- lines that begin with one word
 module _ (word : Bytes) (fs : List Holds) where

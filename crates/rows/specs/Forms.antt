@@ -16,6 +16,10 @@ pub record Form (A : Type 0) : Type 0 where
 abbrev pub saidText : Bytes → List ℤ → Bytes
 saidText word ns = join tab (word ∷ map amountText ns)
 
+-- ---- lines without a word
+abbrev pub wordless : List Holds → Form (List ℤ)
+wordless fs = record { reads = λ p. readFields fs (split tab p); text = λ ns. join tab (map amountText ns) }
+
 -- ---- lines that begin with one word
 abbrev pub afterWord : Bytes → List Holds → List Bytes → Option (List ℤ)
 afterWord word fs [] = none

@@ -1,6 +1,7 @@
 -- The bounds of a scale and a level, test by test: one law for each need of the code, its premises the tests on the way and what the callees
 -- ensure. Assumes nothing.
 use Prim.Native.Nat.{ℕ, _+_, _≤_}
+use native.Mathlib.Nat.{mul-le-mul}
 use native.Mathlib.Omega.{arith}
 use mathlib.Core.Path.{_≡_, sym, ap, ap₂, _∙_}
 use mathlib.Core.Bool.{Bool, true, false}
@@ -9,26 +10,19 @@ use borrow.Author.Tests.{not-true, not-false}
 use lib.Dec.{T}
 use lib.IntN.{ℤ, pos, _+ℤ_, _*ℤ_, natAbs}
 use lib.Signed.{leZ, nonNeg}
-use mir.Syntax.{w32}
+use mir.Syntax.{w16, w32}
 use mir.Val.{Fits, SFits}
 use mir.ValLaws.{toZ-ofZ}
 use Rattle.ints.specs.Parts.{positive, negative}
 use Rattle.model.specs.declared.Header.{Header}
-use Rattle.model.specs.declared.Found.{Found}
 use Rattle.model.specs.Scales.{headerInRange, headroom}
-use Rattle.model.specs.Machine.{goes, stops}
-use Rattle.model.specs.Refused.{bounded}
-use Rattle.model.proofs.Headroom.{headroom-is}
 use Rattle.model.proofs.Tests.{header-facts}
 use Rattle.model.proofs.Bounded.{Tested, tested}
+use Rattle.scales.specs.Headroom.{SmallHeadroom}
 use Rattle.rules.specs.declared.bounds.Ruled.{Ruled}
-use Rattle.rules.specs.declared.bounds.Scaled.{Scaled}
-use Rattle.rules.specs.Ruled.{stepOf, foundAs, LeastReserve, InReach}
+use Rattle.rules.specs.declared.bounds.Ruled.the-variants.{Goes, Stops}
+use Rattle.rules.specs.Ruled.{boundedNumbers, InReach, SmallNumbers}
 use Rattle.rules.proofs.SignedNumbers.{held, small-fits, held-small, signed-is, held-natural, Natural, natural, sum-small, product-small, difference-fits, difference-is}
-
--- ---- the least reserve: no other law says what it is
-pub reserve-is : (h : Header) → LeastReserve h (pos 0)
-reserve-is h = record { is = ap pos (sym (headroom-is h)); small = omega (arith, headroom-is h) }
 
 -- ---- the waterline
 module _ (h : Header) (ranged : T (headerInRange h)) where
@@ -43,7 +37,7 @@ module _ (h : Header) (ranged : T (headerInRange h)) where
 
 -- ---- the modulus
 module _ (h : Header) (ranged : T (headerInRange h)) (s l : ℤ) (reach : InReach s l) where
-  module _ (z : ℤ) (least : LeastReserve h z) where
+  module _ (z : ℤ) (least : SmallHeadroom h z) where
     asked-held : held s +ℤ held z ≡ s +ℤ pos (headroom h)
     asked-held = ap₂ _+ℤ_ (held-small s (omega (arith, reach .scale))) (held-natural z (headroom h) (least .is) (omega (arith, least .small)))
 
@@ -64,15 +58,12 @@ module _ (h : Header) (ranged : T (headerInRange h)) (s l : ℤ) (reach : InReac
     modulus-fits = rw modulus-held (small-fits (pos (h .factor) *ℤ l) modulus-small)
 
     pub modulus-test :
-        (z : ℤ) → LeastReserve h z → leZ (held (held s +ℤ held z)) (held (held f *ℤ held l)) ≡ leZ (s +ℤ pos (headroom h)) (pos (h .factor) *ℤ l)
+        (z : ℤ) → SmallHeadroom h z → leZ (held (held s +ℤ held z)) (held (held f *ℤ held l)) ≡ leZ (s +ℤ pos (headroom h)) (pos (h .factor) *ℤ l)
     modulus-test z least =
         ap₂ leZ (ap held (asked-held z least) ∙ held-small (s +ℤ pos (headroom h)) (asked-small z least))
         (ap held modulus-held ∙ held-small (pos (h .factor) *ℤ l) modulus-small)
 
 -- ---- both bounds
-pub found-by : (of kind : Scaled) (s l : ℕ) (x : Found) → of ≡ kind → x ≡ foundAs kind s l → x ≡ foundAs of s l
-found-by of kind s l x e f = rw e f
-
 pub reach-held : (s l : ℤ) → InReach s l → InReach (held s) (held l)
 reach-held s l reach = rw (held-small s (omega (arith, reach .scale)), held-small l (omega (arith, reach .level))) reach
 
@@ -83,15 +74,15 @@ module _ (h : Header) (s l : ℤ) (reach : InReach s l) (low : Bool) (tests-low 
   is-low : low ≡ leZ (pos (h .waterline)) s
   is-low = tests-low ∙ ap (leZ (pos (h .waterline))) (held-small s (omega (arith, reach .scale)))
 
-  pub below-waterline : (of : Scaled) → low ≡ false → stops 10 ≡ bounded h (foundAs of) s l
-  below-waterline of t = rw (← is-low, t)
+  pub below-waterline : low ≡ false → Stops 10 ≡ boundedNumbers h s l
+  below-waterline t = rw (← is-low, t)
 
   module _ (reached : low ≡ true) (high : Bool) (tests-high : high ≡ leZ (held s +ℤ pos (headroom h)) (pos (h .factor) *ℤ held l)) where
     is-high : high ≡ leZ (s +ℤ pos (headroom h)) (pos (h .factor) *ℤ l)
     is-high = tests-high ∙ rw (held-small s (omega (arith, reach .scale)), held-small l (omega (arith, reach .level)))
 
-    pub above-modulus : (of : Scaled) → high ≡ false → stops 9 ≡ bounded h (foundAs of) s l
-    above-modulus of t = rw (← is-low, reached, ← is-high, t)
+    pub above-modulus : high ≡ false → Stops 9 ≡ boundedNumbers h s l
+    above-modulus t = rw (← is-low, reached, ← is-high, t)
 
     -- what passes both tests is not below zero
     module _ (fits : high ≡ true) (ranged : T (headerInRange h)) where
@@ -107,35 +98,40 @@ module _ (h : Header) (s l : ℤ) (reach : InReach s l) (low : Bool) (tests-low 
       pub scale-not-below : T (nonNeg (held s))
       scale-not-below = scale-natural .not-below
 
-      pub scale-fits : Fits w32 (natAbs (held s))
+      pub scale-fits : Fits w16 (natAbs (held s))
       scale-fits = scale-natural .fits
 
       pub level-not-below : T (nonNeg (held l))
       level-not-below = level-natural .not-below
 
-      pub level-fits : Fits w32 (natAbs (held l))
+      pub level-fits : Fits w16 (natAbs (held l))
       level-fits = level-natural .fits
 
-      pub within-bounds : (of : Scaled) (x : Found) → x ≡ foundAs of (natAbs (held s)) (natAbs (held l)) → goes x ≡ bounded h (foundAs of) s l
-      within-bounds of x e =
-          rw (← is-low, reached, ← is-high, fits) (ap goes (e ∙ ap₂ (foundAs of) (scale-natural .size) (level-natural .size)))
+      pub within-bounds : Goes (natAbs (held s)) (natAbs (held l)) ≡ boundedNumbers h s l
+      within-bounds = rw (← is-low, reached, ← is-high, fits) (ap₂ Goes (scale-natural .size) (level-natural .size))
+
+      pub bounds-small : SmallNumbers (natAbs (held s)) (natAbs (held l))
+      bounds-small =
+          let b = both .bounds in
+          let most : positive l ≤ 60 = omega (arith, reach .level) in
+          record {
+            scale = omega (arith, b .high, mul-le-mul (header-facts h ranged .factor .most) most, scale-natural .size);
+            level = omega (arith, level-natural .size);
+          }
 
 -- ---- a scale and a level that are not below zero
 module _ (y z : ℤ) (s l : ℕ) (e : y ≡ pos s) (f : z ≡ pos l) (a : s ≤ 7200) (b : l ≤ 60) where
   pub natural-reach : InReach (held y) (held z)
   natural-reach = rw (held-natural y s e a, held-natural z l f (omega arith)) (record { scale = omega arith; level = omega arith })
 
-  pub natural-bounded :
-      (h : Header) (of : Scaled) (r : Ruled) → stepOf r ≡ bounded h (foundAs of) (held y) (held z) →
-      stepOf r ≡ bounded h (foundAs of) (pos s) (pos l)
-  natural-bounded h of r q = q ∙ ap₂ (bounded h (foundAs of)) (held-natural y s e a) (held-natural z l f (omega arith))
+  pub natural-bounded : (h : Header) (r : Ruled) → r ≡ boundedNumbers h (held y) (held z) → r ≡ boundedNumbers h (pos s) (pos l)
+  natural-bounded h r q = q ∙ ap₂ (boundedNumbers h) (held-natural y s e a) (held-natural z l f (omega arith))
 
 pub ruleset bound-laws = (
   needs,
   not-true,
   not-false,
   signed-is,
-  reserve-is,
   difference-fits,
   difference-is,
   waterline-small,
@@ -144,7 +140,6 @@ pub ruleset bound-laws = (
   asked-fits,
   modulus-fits,
   modulus-test,
-  found-by,
   reach-held,
   below-waterline,
   above-modulus,
@@ -153,6 +148,7 @@ pub ruleset bound-laws = (
   level-not-below,
   level-fits,
   within-bounds,
+  bounds-small,
   natural-reach,
   natural-bounded,
 )

@@ -1,62 +1,165 @@
--- A well-formed line's operands name earlier lines, and with what those hold the check's step is a step of one line. Assumes nothing.
-use Prim.Native.Nat.{ℕ, _≤_}
+-- A well-formed line's operands name earlier lines of the kinds that its word asks for, and the check's step is the step on the plain numbers
+-- that those hold. Assumes nothing.
+use Prim.Native.Nat.{ℕ, zero, suc, _+_, _*_, _<_}
 use native.Mathlib.Omega.{arith}
-use mathlib.Core.Path.{_≡_, refl, ap, _∙_}
+use mathlib.Core.Path.{_≡_, refl, ap, ap₂, _∙_}
+use mathlib.Core.Bool.{Bool, true, false, cond}
 use mathlib.Core.List.{List, [], _∷_}
 use mathlib.Core.Option.{Option, some}
-use lib.Dec.{T}
-use lib.ListN.{length, getD, getElem?, take}
-use lib.Seq.{length-take-le, getD-take}
+use lib.Dec.{T, eqb}
+use lib.IntN.{ℤ, pos, _-ℤ_}
+use lib.ListN.{length, getD, getElem?}
+use Rattle.model.specs.declared.Grammar.the-variants.{Schedule}
 use Rattle.model.specs.declared.Header.{Header}
+use Rattle.model.specs.declared.Kind.{Kind}
+use Rattle.model.specs.declared.Kind.the-variants.{Ciphertext, Constant, Encoded, Nothing}
 use Rattle.model.specs.declared.Line.{Line}
 use Rattle.model.specs.declared.Line.the-variants.{In, Const, Neg, Rot, Add, Mul, Out, Enc, Rs, Ms, Us, Free}
 use Rattle.model.specs.declared.Found.{Found}
 use Rattle.model.specs.declared.Found.the-variants as Founds
-use Rattle.model.specs.Files.{operands, kindAt, isUsable, everyUsable}
-use Rattle.model.specs.Machine.{Step, andThen, orAbsent, heldBy, step}
-use Rattle.model.specs.Refused.{checkMachine}
-use Rattle.model.proofs.Lists.{found-at}
-use Rattle.model.proofs.Tests.{and-first, and-second}
-use Rattle.model.proofs.Formed.{usable-below}
-use Rattle.rules.specs.Ruled.{ruledBy}
+use Rattle.rows.specs.Rows.{Tests}
+use Rattle.model.specs.Files.{kindOf, kindAt, isCiphertext, isConstant, isPair, isUsable, everyUsable}
+use Rattle.model.specs.Machine.{Step, goes, stops, andThen, orAbsent, heldBy, step}
+use Rattle.model.specs.Answers.{unless, boundTests, bounded, onBare, onCiphertext, onPair, sum, product, checkMachine}
+use Rattle.model.proofs.Tests.{and-first, and-second, is-ciphertext, is-constant}
+use Rattle.model.proofs.Formed.{LineFacts, usable-below}
+use Rattle.rules.specs.declared.bounds.Ruled.{Ruled}
+use Rattle.rules.specs.declared.bounds.Ruled.the-variants.{Goes, Stops}
+use Rattle.rules.specs.declared.rule_steps.Held.{Held}
+use Rattle.rules.specs.Ruled.{heldAt, ruledUnless, boundedNumbers, movedBy, sumOf, productOf, ruledBy}
 use Rattle.tables.specs.Operands.{firstOperand, secondOperand}
 
--- ---- the check's step, where the lines before hold the first i of what was found
-module _ (h : Header) (before : List Line) (found : List Found) (ins i : ℕ) (long : length before ≡ i) (within : i ≤ length found) where
-  abbrev at : ℕ → Found
-  at a = getD found a Founds.Bare
+-- ---- what numbers stand for, by a line's kind; an `out` line, which nothing names, holds what its ciphertext does
+abbrev pub foundAs : Kind → ℕ → ℕ → Found
+foundAs Ciphertext s l = Founds.Ciphertext s l
+foundAs Constant s l = Founds.Bare
+foundAs Encoded s l = Founds.Encoded s l
+foundAs Nothing s l = Founds.Ciphertext s l
 
-  present : (a : ℕ) → T (isUsable (kindAt before a)) → getElem? (take i found) a ≡ some (at a)
-  present a u =
-      let below = usable-below before a u in
-      found-at (take i found) a Founds.Bare (omega (arith, length-take-le i found within)) ∙ ap some (getD-take i found a Founds.Bare (omega arith))
+abbrev pub stepOf : Kind → Ruled → Step Found ℕ
+stepOf k (Goes s l) = goes (foundAs k s l)
+stepOf k (Stops n) = stops n
 
-  -- with the first heldBy, and with the one after it
-  first-held : (a : ℕ) (names : List ℕ) → T (everyUsable before (a ∷ names)) → (f : Found → Step Found ℕ)
-      → andThen (heldBy (checkMachine h) (take i found) a) f ≡ f (at a)
+unless-is : (k : Kind) (tests : Tests) (r : Ruled) → unless tests (stepOf k r) ≡ stepOf k (ruledUnless tests r)
+unless-is k [] r = refl
+unless-is k ((n, passes) ∷ tests) r = go passes (unless-is k tests r)
+  where
+    go : (b : Bool) → unless tests (stepOf k r) ≡ stepOf k (ruledUnless tests r) → cond b (unless tests (stepOf k r)) (stops n) ≡ stepOf k (cond b (ruledUnless tests r) (Stops n))
+    go true e = e
+    go false e = refl
+
+module _ (h : Header) (k : Kind) where
+  bounded-is : (s s′ l l′ : ℤ) → s ≡ s′ → l ≡ l′ → bounded h (foundAs k) s l ≡ stepOf k (boundedNumbers h s′ l′)
+  bounded-is s s′ l l′ e f = unless-is k (boundTests h s l) (Goes _ _) ∙ ap₂ (λ (x y : ℤ). stepOf k (boundedNumbers h x y)) e f
+
+  plus-zero : (n : ℕ) → n ≡ n + 0
+  plus-zero n = omega arith
+
+  minus-zero : (n : ℕ) → pos n ≡ pos n -ℤ pos 0
+  minus-zero n = ap pos (plus-zero n)
+
+  raised-none : (n taken : ℕ) → pos n -ℤ pos taken ≡ pos (n + 0) -ℤ pos taken
+  raised-none n taken = ap (λ (m : ℕ). pos m -ℤ pos taken) (plus-zero n)
+
+  module _ (x : Held) where
+    unmoved : bounded h (foundAs k) (pos (x .scale)) (pos (x .level)) ≡ stepOf k (movedBy h x 0 0 0)
+    unmoved = bounded-is _ _ _ _ (minus-zero (x .scale) ∙ raised-none (x .scale) 0) (minus-zero (x .level))
+
+    rescaled : (c : ℕ) → bounded h (foundAs k) (pos (x .scale) -ℤ pos (h .factor * c)) (pos (x .level) -ℤ pos c) ≡ stepOf k (movedBy h x 0 (h .factor * c) c)
+    rescaled c = let level = pos (x .level) -ℤ pos c in bounded-is _ _ level level (raised-none (x .scale) (h .factor * c)) refl
+
+    modswitched : (c : ℕ) → bounded h (foundAs k) (pos (x .scale)) (pos (x .level) -ℤ pos c) ≡ stepOf k (movedBy h x 0 0 c)
+    modswitched c = let level = pos (x .level) -ℤ pos c in bounded-is _ _ level level (minus-zero (x .scale) ∙ raised-none (x .scale) 0) refl
+
+    upscaled : (b : ℕ) → bounded h (foundAs k) (pos (x .scale + b)) (pos (x .level)) ≡ stepOf k (movedBy h x b 0 0)
+    upscaled b = bounded-is _ _ _ _ (minus-zero (x .scale + b)) (minus-zero (x .level))
+
+module _ (h : Header) (x y : Held) where
+  sum-is : sum h (x .scale) (x .level) (y .scale) (y .level) ≡ stepOf Ciphertext (sumOf h x y)
+  sum-is =
+      let tests : Tests = (7, eqb (x .level) (y .level)) ∷ (8, eqb (x .scale) (y .scale)) ∷ [] in
+      ap (unless tests) (bounded-is h Ciphertext (pos (x .scale)) (pos (x .scale)) (pos (x .level)) (pos (x .level)) refl refl)
+      ∙ unless-is Ciphertext tests (boundedNumbers h (pos (x .scale)) (pos (x .level)))
+
+  product-is : product h (x .scale) (x .level) (y .scale) (y .level) ≡ stepOf Ciphertext (productOf h x y)
+  product-is =
+      let tests : Tests = (7, eqb (x .level) (y .level)) ∷ [] in
+      let both : ℤ = pos (x .scale + y .scale) in
+      ap (unless tests) (bounded-is h Ciphertext both both (pos (x .level)) (pos (x .level)) refl refl)
+      ∙ unless-is Ciphertext tests (boundedNumbers h both (pos (x .level)))
+
+-- ---- operands
+-- two ciphertexts, or one and an encoded constant, in either place
+pair-is :
+    (j k : Kind) → T (isPair Schedule j k) → (f : ℕ → ℕ → ℕ → ℕ → Step Found ℕ) (s l s′ l′ : ℕ) → onPair f (foundAs j s l) (foundAs k s′ l′) ≡ f s l s′ l′
+pair-is Ciphertext Ciphertext t f s l s′ l′ = refl
+pair-is Ciphertext Constant t f s l s′ l′ = absurd t
+pair-is Ciphertext Encoded t f s l s′ l′ = refl
+pair-is Ciphertext Nothing t f s l s′ l′ = absurd t
+pair-is Constant k t f s l s′ l′ = absurd t
+pair-is Encoded Ciphertext t f s l s′ l′ = refl
+pair-is Encoded Constant t f s l s′ l′ = absurd t
+pair-is Encoded Encoded t f s l s′ l′ = absurd t
+pair-is Encoded Nothing t f s l s′ l′ = absurd t
+pair-is Nothing k t f s l s′ l′ = absurd t
+
+-- what a well-formed line names stands before it, and 0 is named where it names nothing
+pub operand-below : (before : List Line) (most : ℕ) → length before < most → (names : List ℕ) → T (everyUsable before names) → (j : ℕ) → getD names j 0 < most
+operand-below before most few [] u j = omega arith
+operand-below before most few (a ∷ names) u zero =
+    let below = usable-below before a (and-first (isUsable (kindAt before a)) (everyUsable before names) u) in omega arith
+operand-below before most few (a ∷ names) u (suc j) =
+    operand-below before most few names (and-second (isUsable (kindAt before a)) (everyUsable before names) u) j
+
+-- ---- the check's step, where the lines before hold what their numbers stand for
+module _
+    (h : Header) (before : List Line) (found : List Found) (all : List Held)
+    (agree : (a : ℕ) → a < length before → getElem? found a ≡ some (foundAs (kindAt before a) (heldAt all a .scale) (heldAt all a .level))) where
+  abbrev foundAt : ℕ → Found
+  foundAt a = foundAs (kindAt before a) (heldAt all a .scale) (heldAt all a .level)
+
+  -- with the first operand, and with the one after it
+  first-held :
+      (a : ℕ) (names : List ℕ) → T (everyUsable before (a ∷ names)) → (f : Found → Step Found ℕ) → andThen (heldBy (checkMachine h) found a) f ≡ f (foundAt a)
   first-held a names u f =
       ap (λ (o : Option Found). andThen (orAbsent (checkMachine h .absent) o) f)
-      (present a (and-first (isUsable (kindAt before a)) (everyUsable before names) u))
+      (agree a (usable-below before a (and-first (isUsable (kindAt before a)) (everyUsable before names) u)))
 
-  both-held : (a b : ℕ) → T (everyUsable before (a ∷ b ∷ [])) → (f : Found → Found → Step Found ℕ)
-      → andThen (heldBy (checkMachine h) (take i found) a) (λ x. andThen (heldBy (checkMachine h) (take i found) b) (f x)) ≡ f (at a) (at b)
-  both-held a b u f =
-      first-held a (b ∷ []) u (λ x. andThen (heldBy (checkMachine h) (take i found) b) (f x))
-      ∙ first-held b [] (and-second (isUsable (kindAt before a)) (everyUsable before (b ∷ [])) u) (f (at a))
+  ciphertext-held :
+      (a : ℕ) → T (everyUsable before (a ∷ [])) → T (isCiphertext (kindAt before a)) → (f : ℕ → ℕ → Step Found ℕ) →
+      andThen (heldBy (checkMachine h) found a) (onCiphertext f) ≡ f (heldAt all a .scale) (heldAt all a .level)
+  ciphertext-held a u t f =
+      first-held a [] u (onCiphertext f)
+      ∙ ap (λ (k : Kind). onCiphertext f (foundAs k (heldAt all a .scale) (heldAt all a .level))) (is-ciphertext (kindAt before a) t)
+
+  constant-held :
+      (a : ℕ) → T (everyUsable before (a ∷ [])) → T (isConstant (kindAt before a)) → (r : Step Found ℕ) → andThen (heldBy (checkMachine h) found a) (onBare r) ≡ r
+  constant-held a u t r =
+      first-held a [] u (onBare r)
+      ∙ ap (λ (k : Kind). onBare r (foundAs k (heldAt all a .scale) (heldAt all a .level))) (is-constant (kindAt before a) t)
+
+  pair-held :
+      (a b : ℕ) → T (everyUsable before (a ∷ b ∷ [])) → T (isPair Schedule (kindAt before a) (kindAt before b)) → (f : ℕ → ℕ → ℕ → ℕ → Step Found ℕ) →
+      andThen (heldBy (checkMachine h) found a) (λ x. andThen (heldBy (checkMachine h) found b) (onPair f x))
+      ≡ f (heldAt all a .scale) (heldAt all a .level) (heldAt all b .scale) (heldAt all b .level)
+  pair-held a b u t f =
+      first-held a (b ∷ []) u (λ x. andThen (heldBy (checkMachine h) found b) (onPair f x))
+      ∙ first-held b [] (and-second (isUsable (kindAt before a)) (everyUsable before (b ∷ [])) u) (onPair f (foundAt a))
+      ∙ pair-is (kindAt before a) (kindAt before b) t f (heldAt all a .scale) (heldAt all a .level) (heldAt all b .scale) (heldAt all b .level)
 
   pub step-is :
-      (x : Line) → T (everyUsable before (operands x)) →
-      step (checkMachine h) ins (take i found) x ≡ ruledBy h x (at (firstOperand x)) (at (secondOperand x))
+      (ins : ℕ) (x : Line) → LineFacts Schedule h before x →
+      step (checkMachine h) ins found x ≡ stepOf (kindOf x) (ruledBy h x (heldAt all (firstOperand x)) (heldAt all (secondOperand x)))
   unfolding ruledBy firstOperand secondOperand
-  step-is In u = refl
-  step-is (Const k) u = refl
-  step-is (Neg a) u = first-held a [] u (checkMachine h .neg)
-  step-is (Rot a t) u = first-held a [] u (λ x. checkMachine h .rot x t)
-  step-is (Add a b) u = both-held a b u (checkMachine h .add)
-  step-is (Mul a b) u = both-held a b u (checkMachine h .mul)
-  step-is (Out a) u = first-held a [] u (checkMachine h .out)
-  step-is (Enc a s e) u = first-held a [] u (λ x. checkMachine h .enc x s e)
-  step-is (Rs a c) u = first-held a [] u (λ x. checkMachine h .rs x c)
-  step-is (Ms a c) u = first-held a [] u (λ x. checkMachine h .ms x c)
-  step-is (Us a b) u = first-held a [] u (λ x. checkMachine h .us x b)
-  step-is Free u = refl
+  step-is ins In c = bounded-is h Ciphertext (pos (h .waterline)) (pos (h .waterline)) (pos (h .top)) (pos (h .top)) refl refl
+  step-is ins (Const k) c = refl
+  step-is ins (Neg a) c = ciphertext-held a (c .usable) (c .kinds) _ ∙ unmoved h Ciphertext (heldAt all a)
+  step-is ins (Rot a t) c = ciphertext-held a (c .usable) (c .kinds) _ ∙ unmoved h Ciphertext (heldAt all a)
+  step-is ins (Add a b) c = pair-held a b (c .usable) (c .kinds) (sum h) ∙ sum-is h (heldAt all a) (heldAt all b)
+  step-is ins (Mul a b) c = pair-held a b (c .usable) (c .kinds) (product h) ∙ product-is h (heldAt all a) (heldAt all b)
+  step-is ins (Out a) c = ciphertext-held a (c .usable) (c .kinds) _ ∙ unmoved h Nothing (heldAt all a)
+  step-is ins (Enc a s e) c = constant-held a (c .usable) (c .kinds) _ ∙ bounded-is h Encoded (pos s) (pos s) (pos e) (pos e) refl refl
+  step-is ins (Rs a k) c = ciphertext-held a (c .usable) (c .kinds) _ ∙ rescaled h Ciphertext (heldAt all a) k
+  step-is ins (Ms a k) c = ciphertext-held a (c .usable) (c .kinds) _ ∙ modswitched h Ciphertext (heldAt all a) k
+  step-is ins (Us a b) c = ciphertext-held a (c .usable) (c .kinds) _ ∙ upscaled h Ciphertext (heldAt all a) b
+  step-is ins Free c = absurd (c .word)

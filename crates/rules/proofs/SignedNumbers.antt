@@ -6,7 +6,7 @@ use mathlib.Core.Path.{_≡_, refl, ap, ap₂, _∙_}
 use lib.Dec.{T}
 use lib.IntN.{ℤ, pos, negsuc, _+ℤ_, _-ℤ_, _*ℤ_, natAbs}
 use lib.Signed.{nonNeg}
-use mir.Syntax.{w32}
+use mir.Syntax.{w16, w32}
 use mir.Val.{Fits, SFits, toZ, ofZ}
 use mir.ValLaws.{toZ-ofZ, toZ-pos}
 use Rattle.ints.specs.Parts.{positive, negative}
@@ -30,10 +30,10 @@ signed-is n h = toZ-pos w32 n (omega arith)
 pub held-natural : (z : ℤ) (n : ℕ) → z ≡ pos n → n ≤ 7200 → held z ≡ pos n
 held-natural z n e h = ap held e ∙ held-small (pos n) (omega arith)
 
--- y is z, which is not below zero, and fits a `u32`
+-- y is z, which is not below zero, and fits a `u16`
 pub record Natural (z y : ℤ) : Type 0 where
   pub not-below : T (nonNeg y)
-  pub fits : Fits w32 (natAbs y)
+  pub fits : Fits w16 (natAbs y)
   pub size : natAbs y ≡ positive z
 
 pub natural : (z : ℤ) → positive z + negative z ≤ 7200 → negative z ≡ 0 → Natural z (held z)

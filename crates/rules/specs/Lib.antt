@@ -1,2 +1,1 @@
 pub mod Ruled
-pub mod Numbers

@@ -1,5 +1,4 @@
 // The bounds of a scale and a level: W ≤ scale ≤ F·level. Both may be below zero here, as after a rescale past zero.
-use model::Found;
 use model::Header;
 ghost use mathlib.Core.Path.{_≡_};
 ghost use Prim.Native.Nat.{_≤_};
@@ -7,26 +6,12 @@ ghost use lib.Dec.{T};
 ghost use lib.IntN.{pos, _+ℤ_, _-ℤ_, _*ℤ_};
 ghost use lib.Signed.{leZ};
 ghost use Rattle.model.specs.Scales.{headerInRange, headroom};
-ghost use Rattle.model.specs.Refused.{bounded};
-ghost use Rattle.rules.specs.Ruled.{stepOf, foundAs, LeastReserve, InReach};
+ghost use Rattle.rules.specs.Ruled.{boundedNumbers, InReach, SmallRuled};
 
-// What the rules make of a line: what is found of it, or the number of the rule that it breaks.
+// What the rules make of a line: the scale and the level that it then holds, or the number of the rule that it breaks.
 pub enum Ruled {
-    Goes(Found),
+    Goes { scale: u16, level: u16 },
     Stops(u32),
-}
-
-// What has a scale and a level.
-pub enum Scaled {
-    Encoded,
-    Ciphertext,
-}
-
-// The least reserve, which the modulus must leave above a scale.
-fn least_reserve(header: Header) -> i32
-    ensures { λ r. ⌜ LeastReserve header r ⌝ }
-{
-    0
 }
 
 // A number as a signed one.
@@ -58,23 +43,15 @@ fn fits_modulus(header: Header, scale: i32, level: i32) -> bool
     requires { ⌜ InReach scale level ⌝ }
     ensures { λ r. ⌜ r ≡ leZ (scale +ℤ pos (headroom header)) (pos (header .factor) *ℤ level) ⌝ }
 {
-    scale + least_reserve(header) <= signed(header.factor) * level
+    scale + scales::headroom(header) <= signed(header.factor) * level
 }
 
-fn found_as(of: Scaled, scale: u32, level: u32) -> Found
-    ensures { λ r. ⌜ r ≡ foundAs of scale level ⌝ }
-{
-    match of {
-        Scaled::Encoded => Found::Encoded(scale, level),
-        Scaled::Ciphertext => Found::Ciphertext(scale, level),
-    }
-}
-
-// 10, then 9, or what is found.
-pub fn bounded(header: Header, of: Scaled, scale: i32, level: i32) -> Ruled
+// 10, then 9, or the scale and the level.
+pub fn bounded(header: Header, scale: i32, level: i32) -> Ruled
     requires { ⌜ T (headerInRange header) ⌝ }
     requires { ⌜ InReach scale level ⌝ }
-    ensures { λ r. ⌜ stepOf r ≡ bounded header (foundAs of) scale level ⌝ }
+    ensures { λ r. ⌜ r ≡ boundedNumbers header scale level ⌝ }
+    ensures small { λ r. ⌜ SmallRuled r ⌝ }
 {
     if !reaches_waterline(header, scale) {
         return Ruled::Stops(10);
@@ -82,15 +59,19 @@ pub fn bounded(header: Header, of: Scaled, scale: i32, level: i32) -> Ruled
     if !fits_modulus(header, scale, level) {
         return Ruled::Stops(9);
     }
-    Ruled::Goes(found_as(of, scale as u32, level as u32))
+    Ruled::Goes {
+        scale: scale as u16,
+        level: level as u16,
+    }
 }
 
 // A scale and a level that are not below zero.
-pub fn bounded_natural(header: Header, of: Scaled, scale: u32, level: u32) -> Ruled
+pub fn bounded_natural(header: Header, scale: u32, level: u32) -> Ruled
     requires { ⌜ T (headerInRange header) ⌝ }
     requires { ⌜ scale ≤ 7200 ⌝ }
     requires { ⌜ level ≤ 60 ⌝ }
-    ensures { λ r. ⌜ stepOf r ≡ bounded header (foundAs of) (pos scale) (pos level) ⌝ }
+    ensures { λ r. ⌜ r ≡ boundedNumbers header (pos scale) (pos level) ⌝ }
+    ensures small { λ r. ⌜ SmallRuled r ⌝ }
 {
-    bounded(header, of, signed(scale), signed(level))
+    bounded(header, signed(scale), signed(level))
 }

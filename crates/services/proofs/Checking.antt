@@ -1,5 +1,5 @@
 -- What the check replies is what is promised: success exactly where the schedule passes, and what each refusal means. Assumes nothing.
-use Prim.Native.Nat.{ℕ, _≤_}
+use Prim.Native.Nat.{ℕ}
 use native.Mathlib.Omega.{arith}
 use mathlib.Core.Path.{_≡_, refl, sym, ap, _∙_, subst, subst₂}
 use mathlib.Core.Logic.{_⊎_, inl, inr}
@@ -12,7 +12,7 @@ use Rattle.model.specs.declared.Answer.the-variants.{Done, Level, Refused}
 use Rattle.model.specs.declared.Grammar.the-variants.{Circuit, Schedule}
 use Rattle.model.specs.Files.{File, wellFormed}
 use Rattle.model.specs.Services.{eraseFile}
-use Rattle.model.specs.Refused.{answerFile, check}
+use Rattle.model.specs.Answers.{answerFile, check}
 use Rattle.model.proofs.Theorems as Model
 use Rattle.model.proofs.Statements.Check as Check
 use Rattle.model.proofs.Statements.FirstBroken.{IsFirstBroken}
@@ -21,10 +21,13 @@ use Rattle.text.specs.Files.{readText, circuitContext, scheduleContext, fileTex
 use Rattle.text.proofs.Refusals.{not-zero}
 use Rattle.text.proofs.FileLaws.{FileBack, file-read-written}
 use Rattle.services.specs.declared.Reply.{Reply}
-use Rattle.services.specs.Outcomes.{Outcome, refuses, answered, onceRead, checkOutcome, replyOf}
-use Rattle.services.specs.Promises.{Passed, TextsDifferAt, Verdict, keeps-rules, other-circuit, breaks-rule, BothRead, CheckPromise}
-use Rattle.services.proofs.Texts.{number-told, eleven, few-lines, text-inverse, passed-files, passed-texts, passed-exact}
+use Rattle.services.specs.Outcomes.{Outcome, refuses, replyOf}
+use Rattle.services.specs.Calls.{answered, onceRead, checkOutcome}
+use Rattle.services.specs.Promises as Promises
+use Rattle.services.specs.Promises.{Passed, TextsDifferAt, Verdict, keeps-rules, other-circuit, breaks-rule, CheckComesTo, CheckPromise}
+use Rattle.services.proofs.Texts.{number-told, is-unread, few-lines, text-inverse, passed-files, passed-texts, passed-exact}
 use Rattle.services.proofs.Differences.{differ-texts}
+use Rattle.services.proofs.OneOutcome.{one-check}
 
 -- the file that is named: at a line, the circuit with 12 and the schedule with another number
 circuit-named : (n p : ℕ) → (p ≡ 0 → ⊥) → n ≡ 12 → answerFile 2 (Refused n p) ≡ 1
@@ -43,7 +46,7 @@ module _ (circuit schedule : Bytes) where
 
   data CheckCase : Outcome → Type 0 where
     circuit-unread : (n p : ℕ) → readText circuitContext circuit ≡ refused n p → CheckCase (refuses n 1 p)
-    schedule-unread : (n p : ℕ) → readText scheduleContext schedule ≡ refused n p → CheckCase (refuses n 2 p)
+    schedule-unread : (c : File) (n p : ℕ) → Circuits c → readText scheduleContext schedule ≡ refused n p → CheckCase (refuses n 2 p)
     both-read : (c s : File) → Circuits c → Schedules s → CheckCase (answered 2 (check c s))
 
   check-case : CheckCase (checkOutcome circuit schedule)
@@ -51,7 +54,7 @@ module _ (circuit schedule : Bytes) where
     where
       on-circuit : (c : File) → Circuits c → (y : Reading File) → readText scheduleContext schedule ≡ y → CheckCase (onceRead 2 y (λ s. answered 2 (check c s)))
       on-circuit c e (read s) q = both-read c s e q
-      on-circuit c e (refused n p) q = schedule-unread n p q
+      on-circuit c e (refused n p) q = schedule-unread c n p e q
 
       go : (x : Reading File) → readText circuitContext circuit ≡ x → CheckCase (onceRead 1 x (λ c. onceRead 2 (readText scheduleContext schedule) (λ s. answered 2 (check c s))))
       go (read c) e = on-circuit c e (readText scheduleContext schedule) refl
@@ -90,40 +93,39 @@ module _ (circuit schedule : Bytes) where
     success (Refused n p) a z = absurd (refusal-number n p a z)
 
     -- what each answer says
-    abbrev Judged : Reply → Type 0
-    Judged r = Verdict circuit s (r .number) (r .file) (r .place)
-
-    other : (n p : ℕ) → n ≡ 12 → Check.OtherCircuit c s p → Judged (replyOf (answered 2 (Refused n p)))
+    other : (n p : ℕ) → n ≡ 12 → Check.OtherCircuit c s p → Verdict circuit s (answered 2 (Refused n p))
     other n p m o =
         let d = subst (λ (text : Bytes). TextsDifferAt (split lineFeed text) (split lineFeed (fileText Circuit (eraseFile s))) p) (back .written)
         (differ-texts c s (back .formed) formed (few-lines circuitContext back) o) in
-        subst₂ (λ (k f : ℕ). Verdict circuit s k f p) (sym m) (sym (circuit-named n p (λ z. omega (arith, d .place-is)) m)) (other-circuit p d)
+        subst₂ (λ (k f : ℕ). Verdict circuit s (refuses k f p)) (sym m) (sym (circuit-named n p (λ z. omega (arith, d .place-is)) m)) (other-circuit p d)
 
-    broken : (n p : ℕ) → Check.ByRules c s n p → Judged (replyOf (answered 2 (Refused n p)))
+    broken : (n p : ℕ) → Check.ByRules c s n p → Verdict circuit s (answered 2 (Refused n p))
     broken n p r =
         let b = first-broken r in
         let same : eraseFile s ≡ c = λ i. record { header = sym (r .same-header) i; lines = sym (r .same-lines) i } in
-        subst (λ (f : ℕ). Verdict circuit s n f p) (sym (schedule-named n p (λ z. omega (arith, b .broken .place-is)) (λ z. omega (arith, b .most))))
+        subst (λ (f : ℕ). Verdict circuit s (refuses n f p)) (sym (schedule-named n p (λ z. omega (arith, b .broken .place-is)) (λ z. omega (arith, b .most))))
         (breaks-rule n p (ap (fileText Circuit) same ∙ back .written) (b .broken))
 
-    judged : (a : Answer) → check c s ≡ a → Judged (replyOf (answered 2 a))
+    judged : (a : Answer) → check c s ≡ a → Verdict circuit s (answered 2 a)
     judged Done a = let p = judges .passes .0 a in keeps-rules (ap (fileText Circuit) (p .erases) ∙ back .written) (p .keeps)
     judged (Level l) a = absurd (judges .no-level l a)
     judged (Refused n p) a = go (judges .refuses n p a)
       where
-        go : ((n ≡ 12) × Check.OtherCircuit c s p) ⊎ Check.ByRules c s n p → Judged (replyOf (answered 2 (Refused n p)))
+        go : ((n ≡ 12) × Check.OtherCircuit c s p) ⊎ Check.ByRules c s n p → Verdict circuit s (answered 2 (Refused n p))
         go (inl (m, o)) = other n p m o
         go (inr r) = broken n p r
 
   zero-passed : {o : Outcome} → CheckCase o → replyOf o .number ≡ 0 → Passed circuit schedule
   zero-passed (circuit-unread n p e) z = absurd (not-zero (number-told circuitContext circuit n p e) z)
-  zero-passed (schedule-unread n p q) z = absurd (not-zero (number-told scheduleContext schedule n p q) z)
+  zero-passed (schedule-unread c n p e q) z = absurd (not-zero (number-told scheduleContext schedule n p q) z)
   zero-passed (both-read c s e q) z = success e q (check c s) refl z
 
-  files-read : {o : Outcome} → CheckCase o → 7 ≤ replyOf o .number → (replyOf o .number ≡ 11 → ⊥) → BothRead circuit schedule
-  files-read (circuit-unread n p e) u f = absurd (f (eleven (number-told circuitContext circuit n p e) u))
-  files-read (schedule-unread n p q) u f = absurd (f (eleven (number-told scheduleContext schedule n p q) u))
-  files-read (both-read c s e q) u f = record { circuit-file = c; schedule-file = s; circuit-reads = e; schedule-reads = q }
+  comes-to : {o : Outcome} → CheckCase o → CheckComesTo circuit schedule o
+  comes-to (circuit-unread n p e) = Promises.circuit-unread n p (is-unread circuitContext circuit n p e)
+  comes-to (schedule-unread c n p e q) = Promises.schedule-unread c n p e (is-unread scheduleContext schedule n p q)
+  comes-to (both-read c s e q) =
+      Promises.both-read (record { circuit-file = c; schedule-file = s; circuit-reads = e; schedule-reads = q }) (answered 2 (check c s))
+      (judged e q (check c s) refl)
 
   passed-zero : Passed circuit schedule → replyOf (checkOutcome circuit schedule) .number ≡ 0
   passed-zero p =
@@ -139,10 +141,13 @@ module _ (circuit schedule : Bytes) where
         record {
           inverse-circuit = text-inverse circuitContext (omega arith) circuit;
           inverse-schedule = text-inverse scheduleContext (omega arith) schedule;
+          call =
+              record {
+                outcome = checkOutcome circuit schedule;
+                comes-to = comes-to check-case;
+                only = λ other c. one-check circuit schedule c (comes-to check-case);
+              };
           reply = a;
-          passes = (λ z. zero-passed check-case (sym number ∙ z), λ p. number ∙ passed-zero p);
+          zero-is-passed = (λ z. zero-passed check-case (sym number ∙ z), λ p. number ∙ passed-zero p);
           exact = passed-exact circuit schedule;
-          verdict = λ b. subst (Judged (b .circuit-reads) (b .schedule-reads)) (sym (a ∙ reply-read (b .circuit-reads) (b .schedule-reads)))
-              (judged (b .circuit-reads) (b .schedule-reads) (check (b .circuit-file) (b .schedule-file)) refl);
-          both-read = λ u f. files-read check-case (subst (λ (n : ℕ). 7 ≤ n) number u) (λ z. f (number ∙ z));
         }

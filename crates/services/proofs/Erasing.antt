@@ -1,11 +1,11 @@
 -- What erasing replies is what is promised: the erasure's text, which reads as a circuit. Assumes nothing.
 use Prim.Native.Nat.{ℕ, suc, _≤_}
 use native.Mathlib.Omega.{arith}
-use mathlib.Core.Path.{_≡_, refl, sym, ap, _∙_, subst}
+use mathlib.Core.Path.{_≡_, refl, ap}
 use mathlib.Core.Bool.{Bool, true, false, cond}
 use mathlib.Core.List.{List, [], _∷_, _++_}
 use lib.Dec.{T, leb, leb→le}
-use lib.ListN.{length, getD, take}
+use lib.ListN.{length, getD}
 use Rattle.fields.specs.Pieces.{Bytes}
 use Rattle.model.specs.declared.Header.{Header}
 use Rattle.model.specs.declared.Line.{Line}
@@ -17,14 +17,16 @@ use Rattle.model.proofs.Tests.{and-first, and-second}
 use Rattle.model.proofs.Formed.{line-facts, well-lines}
 use Rattle.model.proofs.Theorems as Model
 use Rattle.rows.specs.Rows.{Reading, read, refused}
-use Rattle.text.specs.Files.{keptCount, readText, eraseContext, fileText}
-use Rattle.text.proofs.Refusals.{not-zero}
+use Rattle.text.specs.Files.{keptCount, readText, circuitContext, eraseContext, fileText}
 use Rattle.text.proofs.FileLaws.{file-read-written}
 use Rattle.services.specs.declared.Reply.{Reply}
-use Rattle.services.specs.Outcomes.{Outcome, writes, refuses, onceRead, eraseOutcome, Replied}
-use Rattle.services.specs.Promises.{Fitting, ReadAs, Erases, ErasePromise}
-use Rattle.services.proofs.Lending.{Writing, text, refusal, lent-replies, fitting, written-text}
-use Rattle.services.proofs.Texts.{not-both, one-file, number-told, text-inverse, circuit-back}
+use Rattle.services.specs.Outcomes.{Outcome, writes, refuses, Replied}
+use Rattle.services.specs.Calls.{onceRead, eraseOutcome}
+use Rattle.services.specs.Promises as Promises
+use Rattle.services.specs.Promises.{EraseComesTo, ErasePromise}
+use Rattle.services.proofs.Lending.{Writing, text, refusal, lent-replies}
+use Rattle.services.proofs.Texts.{is-unread, text-inverse, circuit-back}
+use Rattle.services.proofs.OneOutcome.{one-erasure}
 
 -- ---- an erasure has no more lines than are kept
 erase-kept : (xs : List Line) (origins : List ℕ) (count : ℕ) → keptCount (eraseFrom origins count xs) ≤ keptCount xs
@@ -75,35 +77,24 @@ module _ (schedule : Bytes) where
       go (refused n p) e = unread n p e
       go (read f) e = erased f e
 
-  erases-text : {f : File} → readText eraseContext schedule ≡ read f → ReadAs eraseContext schedule (Erases (fileText Circuit (eraseFile f)))
-  erases-text {f} e =
+  erasure-reads : {f : File} → readText eraseContext schedule ≡ read f → readText circuitContext (fileText Circuit (eraseFile f)) ≡ read (eraseFile f)
+  erasure-reads {f} e =
       let b = file-read-written eraseContext schedule e in
       let formed = Model.erasing (f .header) (f .lines) (b .formed) .formed in
       let kept = leb→le (keptCount (f .lines)) 256 (and-second (leb (length (f .lines)) 1792) (leb (keptCount (f .lines)) 256) (b .few)) in
       let all = all-kept (f .header) [] (erase (f .lines)) (well-lines Circuit (f .header) (erase (f .lines)) formed) in
       let most = erase-kept (f .lines) [] 0 in
-      record { file = f; reads = e; is = record { text-is = refl; circuit-reads = circuit-back (eraseFile f) formed (omega arith) } }
+      circuit-back (eraseFile f) formed (omega arith)
 
-  module _ (out : Bytes) (r : Reply) (after : Bytes) where
-    erases : {o : Outcome} → EraseCase schedule o → Replied o out r after → r .number ≡ 0 → ReadAs eraseContext schedule (Erases (take (r .length) after))
-    erases (unread n p e) a z = absurd (not-zero (number-told eraseContext schedule n p e) (sym (ap (λ (q : Reply). q .number) (a .reply)) ∙ z))
-    erases (erased f e) a z =
-        subst (λ (text : Bytes). ReadAs eraseContext schedule (Erases text)) (sym (written-text out r after (fileText Circuit (eraseFile f)) (a .reply) (a .bytes) z))
-        (erases-text e)
-
-    otherwise : {o : Outcome} → EraseCase schedule o → Replied o out r after → (f : File) → readText eraseContext schedule ≡ read f
-        → Fitting (length (fileText Circuit (eraseFile f))) (length out) (r .number)
-    otherwise (unread n p e) a f i = not-both i e
-    otherwise (erased k e) a f i =
-        subst (λ (x : File). Fitting (length (fileText Circuit (eraseFile x))) (length out) (r .number)) (one-file e i)
-        (fitting out r after (fileText Circuit (eraseFile k)) a)
+  comes-to : {o : Outcome} → EraseCase schedule o → EraseComesTo schedule o
+  comes-to (unread n p e) = Promises.unread n p (is-unread eraseContext schedule n p e)
+  comes-to (erased f e) = Promises.erases f (fileText Circuit (eraseFile f)) e refl (erasure-reads e)
 
 pub erase-promise : (schedule out : Bytes) (r : Reply) (after : Bytes) → Replied (eraseOutcome schedule) out r after → ErasePromise schedule out r after
 erase-promise schedule out r after a =
     let case = erase-case schedule in
     record {
       inverse = text-inverse eraseContext (omega arith) schedule;
+      call = record { outcome = eraseOutcome schedule; comes-to = comes-to schedule case; only = λ other c. one-erasure schedule c (comes-to schedule case) };
       replies = lent-replies out r after (case-writing case) a;
-      erases = erases schedule out r after case a;
-      otherwise = otherwise schedule out r after case a;
     }

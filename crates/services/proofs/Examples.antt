@@ -4,12 +4,17 @@ use native.Mathlib.Omega.{arith}
 use mathlib.Core.Path.{_≡_, refl, sym, ap, _∙_, subst}
 use mathlib.Core.List.{[]}
 use lib.Dec.{lit<}
-use Rattle.text.specs.Files.{circuitContext}
-use Rattle.services.specs.Outcomes.{Outcome, writes, refuses, planOutcome, checkOutcome, lent, replyOf, bytesAfter}
+use Rattle.fields.specs.Pieces.{Bytes}
+use Rattle.rows.specs.Rows.{read}
+use Rattle.model.specs.Files.{File}
+use Rattle.text.specs.Files.{readText, circuitContext}
+use Rattle.services.specs.Outcomes.{Outcome, writes, refuses, lent, replyOf, bytesAfter}
+use Rattle.services.specs.Calls.{planOutcome, checkOutcome}
 use Rattle.services.specs.declared.Reply.{Reply}
-use Rattle.services.specs.Promises.{ReadAs, Passed, TooFew}
+use Rattle.services.specs.Promises as Promises
+use Rattle.services.specs.Promises.{Passed, TooFew, PlanComesTo}
 use Rattle.services.specs.Worked.{comesTo, shown, listing, listingByHand, fourth}
-use Rattle.services.proofs.Planning.{plan-promise}
+use Rattle.services.proofs.Planning.{plan-comes-to}
 use Rattle.services.proofs.Checking.{check-promise}
 use Rattle.services.proofs.Cases.{worked}
 
@@ -19,7 +24,7 @@ comes-to e = cc
 -- row 24: a schedule written by hand passes, and row 22: it is not the plan
 pub by-hand-passes : Passed (shown listing) (shown listingByHand)
 by-hand-passes =
-    check-promise (shown listing) (shown listingByHand) (replyOf (checkOutcome (shown listing) (shown listingByHand))) refl .passes .0
+    check-promise (shown listing) (shown listingByHand) (replyOf (checkOutcome (shown listing) (shown listingByHand))) refl .zero-is-passed .0
     (ap (λ (o : Outcome). replyOf o .number) (comes-to (worked 24 (lit< tt))))
 
 pub by-hand-is-not-the-plan : planOutcome (shown listing) ≡ writes (shown listingByHand) → ⊥
@@ -28,13 +33,19 @@ by-hand-is-not-the-plan e =
     omega arith
 
 -- row 4: a circuit with no schedule
-abbrev TooFewAt : ℕ → Type 0
-TooFewAt place = ReadAs circuitContext (shown fourth) (λ file. TooFew (file .header) (file .lines) place)
+pub record TooFewAt (circuit : Bytes) (place : ℕ) : Type 0 where
+  pub file : File
+  pub reads : readText circuitContext circuit ≡ read file
+  pub is : TooFew (file .header) (file .lines) place
 
-pub fourth-has-no-schedule : TooFewAt 4
-fourth-has-no-schedule =
-    let is : planOutcome (shown fourth) ≡ refuses 6 1 4 = comes-to (worked 4 (lit< tt)) in
-    let reply = replyOf (lent 0 (planOutcome (shown fourth))) in
-    let told : reply ≡ replyOf (refuses 6 1 4) = ap (λ (o : Outcome). replyOf (lent 0 o)) is in
-    let promise = plan-promise (shown fourth) [] reply (bytesAfter (lent 0 (planOutcome (shown fourth))) []) (record { reply = refl; bytes = refl }) in
-    subst TooFewAt (ap (λ (r : Reply). r .place) told) (promise .too-few (ap (λ (r : Reply). r .number) told))
+too-few-told : {circuit : Bytes} {o : Outcome} (place : ℕ) → PlanComesTo circuit o → o ≡ refuses 6 1 place → TooFewAt circuit place
+too-few-told place (Promises.unread n p u) e =
+    let six : n ≡ 6 = cc in
+    absurd (let few = u .by-reading (λ z. omega arith) .1 in omega arith)
+too-few-told place (Promises.too-few f p e t) q =
+    let same : p ≡ place = cc in
+    record { file = f; reads = e; is = subst (TooFew (f .header) (f .lines)) same t }
+too-few-told place (Promises.plans w p) e = absurd (let z : _≡_ {A = ℕ} 0 1 = cc in omega arith)
+
+pub fourth-has-no-schedule : TooFewAt (shown fourth) 4
+fourth-has-no-schedule = too-few-told 4 (plan-comes-to (shown fourth)) (comes-to (worked 4 (lit< tt)))

@@ -3,6 +3,9 @@
 use Prim.Native.Nat.{ℕ, _≤_}
 use native.Mathlib.Omega.{arith}
 use mathlib.Core.Path.{_≡_, refl, sym, ap, _∙_, subst}
+use mathlib.Core.Logic.{_↔_}
+use mathlib.Core.Bool.{Bool, cond}
+use borrow.Author.Tests.{ne-eqb}
 use lib.Dec.{T}
 use lib.ListN.{length}
 use Rattle.fields.specs.Pieces.{Bytes}
@@ -11,23 +14,26 @@ use Rattle.model.specs.declared.Answer.the-variants.{Done, Level, Refused}
 use Rattle.model.specs.declared.Grammar.the-variants.{Circuit, Schedule}
 use Rattle.model.specs.Scales.{withTop}
 use Rattle.model.specs.Files.{File, wellFormed}
-use Rattle.model.specs.Services.{leastLevel}
-use Rattle.model.specs.Refused.{answerFile}
+use Rattle.model.specs.Answers.{leastLevel}
+use Rattle.model.specs.Answers.{answerFile}
 use Rattle.model.proofs.Statements.LeastLevel.{IsLeastLevel}
 use Rattle.model.proofs.Theorems as Model
 use Rattle.model.proofs.Statements.LeastLevel as LeastLevel
 use Rattle.rows.specs.Rows.{Reading, read, refused}
 use Rattle.text.specs.Files.{readText, circuitContext, fileText}
-use Rattle.text.proofs.Refusals.{not-zero}
 use Rattle.text.proofs.FileLaws.{FileBack, file-read-written}
 use Rattle.services.specs.declared.Reply.{Reply}
-use Rattle.services.specs.Outcomes.{Outcome, fitsAt, refuses, answered, onceRead, leastOutcome, replyOf}
-use Rattle.services.specs.Promises.{ReadAs, Plans, Fits, withLevel, Least, NoneFits, LeastPromise}
+use Rattle.services.specs.Outcomes.{Outcome, fitsAt, refuses, replyOf}
+use Rattle.services.specs.Calls.{answered, onceRead, leastOutcome}
+use Rattle.services.specs.Promises as Promises
+use Rattle.services.specs.Promises.{Plans, Fits, withLevel, Least, NoneFits, LeastComesTo, LeastPromise}
 use Rattle.services.proofs.Planning.{too-few-at, plans-text}
-use Rattle.services.proofs.Texts.{not-both, one-file, not-too-few, number-told, few-lines, circuit-back, text-inverse}
+use Rattle.services.proofs.Texts.{not-both, one-file, is-unread, few-lines, circuit-back, text-inverse}
+use Rattle.services.proofs.OneOutcome.{one-level}
 
-level-refused : {P : Type 0} {a : Answer} {l n p : ℕ} → a ≡ Level l → a ≡ Refused n p → P
-level-refused e q = absurd (let z : _≡_ {A = ℕ} 0 1 = cc in omega arith)
+-- the file that is named: the circuit
+circuit-named : (p : ℕ) → (p ≡ 0 → ⊥) → answerFile 1 (Refused 6 p) ≡ 1
+circuit-named p f = ap (λ (b : Bool). cond b 0 1) (ne-eqb p 0 f)
 
 -- ---- what the service comes to
 data LeastCase (circuit : Bytes) : Outcome → Type 0 where
@@ -61,16 +67,16 @@ module _ (circuit : Bytes) where
 
   -- at another level the circuit has a plan where it fits
   module _ {f : File} (e : Reads f) (l : ℕ) (low : 1 ≤ l) (high : l ≤ 60) where
-    abbrev at : File
-    at = record { header = withTop (f .header) l; lines = f .lines }
-
     formed : T (wellFormed Circuit (withTop (f .header) l) (f .lines))
     formed = Model.formed-at-top (f .header) (f .lines) (back e .formed) l low high
 
-    planned : Fits f l → (written : Bytes) × Plans (withLevel f l) written
+    reads-at : readText circuitContext (fileText Circuit (withLevel f l)) ≡ read (withLevel f l)
+    reads-at = circuit-back (withLevel f l) formed (few-lines circuitContext (back e))
+
+    planned : Fits f l → (written : Bytes) × Plans (fileText Circuit (withLevel f l)) written
     planned S =
-        let w = Model.too-few-levels at formed .writes-if S in
-        (fileText Schedule (w .schedule), plans-text (withLevel f l) (circuit-back at formed (few-lines circuitContext (back e))) (w .writes))
+        let w = Model.too-few-levels (withLevel f l) formed .writes-if S in
+        (fileText Schedule (w .schedule), plans-text (fileText Circuit (withLevel f l)) reads-at (w .writes))
 
     -- what fits at a level fits at 60
     higher : Fits f l → Fits f 60
@@ -79,45 +85,50 @@ module _ (circuit : Bytes) where
   none-at-sixty : {f : File} (p : ℕ) → Reads f → leastLevel f ≡ Refused 6 p → Fits f 60 → ⊥
   none-at-sixty {f} p e q S = right e .too-few 6 p q .no-schedule S
 
-  module _ (r : Reply) where
-    least : {o : Outcome} → LeastCase circuit o → r ≡ replyOf o → r .number ≡ 0 → ReadAs circuitContext circuit (Least (r .length))
-    least (unread n p e) a z = absurd (not-zero (number-told circuitContext circuit n p e) (sym (ap (λ (q : Reply). q .number) a) ∙ z))
-    least (few f p e q) a z = absurd (let six = ap (λ (q : Reply). q .number) a in omega arith)
-    least (found f l e q) a z = subst (λ (k : ℕ). ReadAs circuitContext circuit (Least k)) (sym (ap (λ (q : Reply). q .length) a)) (is-least (right e .level l q))
-      where
-        is-least : IsLeastLevel (f .header) (f .lines) l → ReadAs circuitContext circuit (Least l)
-        is-least i =
-            let p = planned e l (i .low) (i .high) (i .fits) in
-            record { file = f; reads = e; is = record { low = i .low; high = i .high; fits = i .fits; least = i .least; written = p .0; plans = p .1 } }
+  is-least : {f : File} {l : ℕ} → Reads f → IsLeastLevel (f .header) (f .lines) l → Least f l
+  is-least {f} {l} e i =
+      let p = planned e l (i .low) (i .high) (i .fits) in
+      record { low = i .low; high = i .high; fits = i .fits; least = i .least; written = p .0; reads = reads-at e l (i .low) (i .high); plans = p .1 }
 
-    too-few : {o : Outcome} → LeastCase circuit o → r ≡ replyOf o → r .number ≡ 6 → ReadAs circuitContext circuit (NoneFits (r .place))
-    too-few (unread n p e) a z = absurd (not-too-few (number-told circuitContext circuit n p e) (sym (ap (λ (q : Reply). q .number) a) ∙ z))
-    too-few (found f l e q) a z = absurd (let none = ap (λ (q : Reply). q .number) a in omega arith)
-    too-few (few f p e q) a z =
-        let sixty = LeastLevel.atSixty f in
-        let formed = Model.formed-at-top (f .header) (f .lines) (back e .formed) 60 (omega arith) (omega arith) in
-        let few-at = too-few-at sixty p formed (right e .too-few 6 p q .as-planned) (ap (λ (q : Reply). q .place) a) in
-        record { file = f; reads = e; is = record { none-fits = λ k low high S. none-at-sixty p e q (higher e k low high S); at-sixty = few-at } }
+  none-fits : {f : File} (p : ℕ) → Reads f → leastLevel f ≡ Refused 6 p → NoneFits f p
+  none-fits {f} p e q =
+      let formed = Model.formed-at-top (f .header) (f .lines) (back e .formed) 60 (omega arith) (omega arith) in
+      record {
+        none-fits = λ k low high S. none-at-sixty p e q (higher e k low high S);
+        at-sixty = too-few-at (LeastLevel.atSixty f) p formed (right e .too-few 6 p q .as-planned);
+      }
 
-    too-few-if : {o : Outcome} → LeastCase circuit o → r ≡ replyOf o → (f : File) → Reads f → (Fits f 60 → ⊥) → r .number ≡ 6
-    too-few-if (unread n p e) a f i none = not-both i e
-    too-few-if (few k p e q) a f i none = ap (λ (q : Reply). q .number) a
-    too-few-if (found k l e q) a f i none =
-        level-refused q (right e .too-few-if (λ S. none (subst (λ (x : File). Fits x 60) (one-file e i) S)) .says)
+  comes-to : {o : Outcome} → LeastCase circuit o → LeastComesTo circuit o
+  comes-to (unread n p e) = Promises.unread n p (is-unread circuitContext circuit n p e)
+  comes-to (found f l e q) = Promises.fits-from f l e (is-least e (right e .level l q))
+  comes-to (few f p e q) =
+      let is = none-fits p e q in
+      subst (λ (n : ℕ). LeastComesTo circuit (refuses 6 n p)) (sym (circuit-named p (λ z. omega (arith, is .at-sixty .place-is)))) (Promises.too-few f p e is)
 
-    otherwise : {o : Outcome} → LeastCase circuit o → r ≡ replyOf o → (f : File) → Reads f → Fits f 60 → r .number ≡ 0
-    otherwise (unread n p e) a f i S = not-both i e
-    otherwise (few k p e q) a f i S = absurd (none-at-sixty p e q (subst (λ (x : File). Fits x 60) (one-file i e) S))
-    otherwise (found k l e q) a f i S = ap (λ (q : Reply). q .number) a
+  least-comes-to : LeastComesTo circuit (leastOutcome circuit)
+  least-comes-to = comes-to least-case
+
+  -- 6 exactly where there is no schedule at 60
+  exactly : (r : Reply) {o : Outcome} → LeastCase circuit o → r ≡ replyOf o → (f : File) → Reads f → (r .number ≡ 6) ↔ (Fits f 60 → ⊥)
+  exactly r (unread n p e) a f i = not-both i e
+  exactly r (few k p e q) a f i =
+      (λ six S. none-at-sixty p e q (subst (λ (x : File). Fits x 60) (one-file i e) S), λ n. ap (λ (q : Reply). q .number) a)
+  exactly r (found k l e q) a f i =
+      let is = right e .level l q in (
+        λ six. absurd (let same = ap (λ (q : Reply). q .number) a in omega arith),
+        λ n. absurd (n (subst (λ (x : File). Fits x 60) (one-file e i) (higher e l (is .low) (is .high) (is .fits)))),
+      )
 
 pub least-promise : (circuit : Bytes) (r : Reply) → r ≡ replyOf (leastOutcome circuit) → LeastPromise circuit r
 least-promise circuit r e =
-    let case = least-case circuit in
     record {
       inverse = text-inverse circuitContext (omega arith) circuit;
+      call =
+          record {
+            outcome = leastOutcome circuit;
+            comes-to = least-comes-to circuit;
+            only = λ other c. one-level circuit c (least-comes-to circuit);
+          };
       reply = e;
-      least = least circuit r case e;
-      too-few = too-few circuit r case e;
-      too-few-if = too-few-if circuit r case e;
-      otherwise = otherwise circuit r case e;
+      too-few-iff = exactly circuit r (least-case circuit) e;
     }

@@ -3,14 +3,14 @@ use Prim.Native.Nat.{ℕ, _≤_}
 use native.Mathlib.Omega.{arith}
 use mathlib.Core.Path.{_≡_, sym, ap, _∙_}
 use mathlib.Core.List.{_++_}
-use lib.Dec.{leb, leb→le, nleb→lt}
+use lib.Dec.{leb, leb→le}
 use lib.ListN.{length, take, drop, length-append, length-drop}
 use lib.Seq.{take-append-seam, drop-append-seam}
 use Rattle.fields.specs.Pieces.{Bytes}
 use Rattle.model.proofs.Tests.{cond-cases}
 use Rattle.services.specs.declared.Reply.{Reply}
 use Rattle.services.specs.Outcomes.{Outcome, writes, refuses, lent, replyOf, bytesAfter, Replied}
-use Rattle.services.specs.Promises.{Lent, Fitting, fits, short}
+use Rattle.services.specs.Promises.{Lent}
 
 -- the outcomes of a call that writes
 pub data Writing : Outcome → Type 0 where
@@ -53,13 +53,6 @@ module _ (out : Bytes) (r : Reply) (after : Bytes) where
 
   pub lent-replies : {o : Outcome} → Writing o → Replied o out r after → Lent o out r after
   lent-replies w a = lent-told w (a .reply) (a .bytes)
-
-  -- a text is written if it fits, and 13 said if it does not
-  pub fitting : (t : Bytes) → Replied (writes t) out r after → Fitting (length t) (length out) (r .number)
-  fitting t a =
-      cond-cases (λ o. r ≡ replyOf o → Fitting (length t) (length out) (r .number)) (leb (length t) (length out)) (writes t) (refuses 13 0 0)
-      (λ u e. fits (leb→le (length t) (length out) u) (ap (λ (q : Reply). q .number) e))
-      (λ u e. short (nleb→lt (length t) (length out) u) (ap (λ (q : Reply). q .number) e)) (a .reply)
 
   -- what is written, where something is
   pub written-text : (t : Bytes) → r ≡ replyOf (lent (length out) (writes t)) → after ≡ bytesAfter (lent (length out) (writes t)) out → r .number ≡ 0 → take (r .length) after ≡ t

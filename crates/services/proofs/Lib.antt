@@ -3,6 +3,7 @@ pub mod Lending
 pub mod Steps
 pub mod Texts
 pub mod Differences
+pub mod OneOutcome
 pub mod Planning
 pub mod Checking
 pub mod Erasing

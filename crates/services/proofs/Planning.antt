@@ -2,8 +2,8 @@
 use Prim.Native.Nat.{ℕ}
 use native.Mathlib.Omega.{arith}
 use mathlib.Core.Path.{_≡_, refl, sym, ap, _∙_, subst}
+use mathlib.Core.Logic.{_↔_}
 use lib.Dec.{T}
-use lib.ListN.{length, take}
 use Rattle.fields.specs.Pieces.{Bytes}
 use Rattle.model.specs.declared.Grammar.the-variants.{Circuit, Schedule}
 use Rattle.model.specs.declared.Best.{Best}
@@ -14,14 +14,16 @@ use Rattle.model.specs.Plan.{bestMachine, planLines}
 use Rattle.model.specs.Services.{Planned, scheduled, unplanned, plan}
 use Rattle.model.proofs.Theorems as Model
 use Rattle.text.specs.Files.{readText, circuitContext, fileText}
-use Rattle.text.proofs.Refusals.{not-zero}
 use Rattle.text.proofs.FileLaws.{FileBack, file-read-written}
 use Rattle.services.specs.declared.Reply.{Reply}
-use Rattle.services.specs.Outcomes.{Outcome, writes, refuses, onceRead, planned, planOutcome, Replied}
+use Rattle.services.specs.Outcomes.{Outcome, writes, refuses, Replied}
+use Rattle.services.specs.Calls.{onceRead, planned, planOutcome}
 use Rattle.model.specs.Demands.{Schedulable}
-use Rattle.services.specs.Promises.{ReadAs, Passed, IsBest, TooFew, Plans, WritesPlan, PlanPromise}
-use Rattle.services.proofs.Lending.{Writing, text, refusal, by-room, lent-replies, fitting, written-text}
-use Rattle.services.proofs.Texts.{not-both, one-file, not-too-few, number-told, few-lines, text-inverse, schedule-back, passed-texts, passed-exact}
+use Rattle.services.specs.Promises as Promises
+use Rattle.services.specs.Promises.{Passed, IsBest, TooFew, Plans, PlanComesTo, PlanPromise}
+use Rattle.services.proofs.Lending.{Writing, text, refusal, by-room, lent-replies}
+use Rattle.services.proofs.Texts.{not-both, one-file, is-unread, few-lines, text-inverse, schedule-back, passed-texts, passed-exact}
+use Rattle.services.proofs.OneOutcome.{one-plan}
 
 -- ---- what planning comes to
 pub data PlanCase (circuit : Bytes) : Outcome → Type 0 where
@@ -51,15 +53,15 @@ plan-stops f p = go (run (bestMachine (f .header)) (f .lines)) refl
     go (stopped i n) e q = let six : n ≡ 6 = cc in let at : placeOf i ≡ p = cc in record { line = i; place-is = sym at; stops = e ∙ ap (stopped i) six }
 
 -- no schedule, and the first line with which there is none
-pub too-few-at : (f : File) (p : ℕ) → T (wellFormed Circuit (f .header) (f .lines)) → plan f ≡ unplanned 6 p → {q : ℕ} → q ≡ p → TooFew (f .header) (f .lines) q
-too-few-at f p t says at =
+pub too-few-at : (f : File) (p : ℕ) → T (wellFormed Circuit (f .header) (f .lines)) → plan f ≡ unplanned 6 p → TooFew (f .header) (f .lines) p
+too-few-at f p t says =
     let w = Model.too-few-levels f t .first (record { place = p; says = says }) in
     let s = plan-stops f p says in
     let same : s .line ≡ w .line = omega (arith, w .place-is, s .place-is) in
     record {
       no-schedule = Model.too-few-levels f t .too-few-only (record { place = p; says = says });
       line = w .line;
-      place-is = at ∙ w .place-is;
+      place-is = w .place-is;
       stops = s .stops ∙ ap (λ (i : ℕ). stopped i 6) same;
       below = w .below;
       before = w .before;
@@ -105,6 +107,10 @@ module _ (circuit : Bytes) where
     plan-best : IsBest circuit (fileText Schedule s) p
     plan-best other = Model.best-reserve (p .files .circuit-file) (back (p .files .circuit-reads) .formed) (p .files .schedule-file) plan-is (p .keeps) other
 
+  -- there is a schedule
+  plan-exists : {f s : File} → Reads f → plan f ≡ scheduled s → Schedulable (f .header) (f .lines)
+  plan-exists {f} {s} e q = Model.too-few-levels f (back e .formed) .writes-only (record { schedule = s; writes = q })
+
   pub plans-text : {f s : File} → Reads f → plan f ≡ scheduled s → Plans circuit (fileText Schedule s)
   plans-text {f} {s} e q =
       let p = plan-passes e q in
@@ -112,50 +118,41 @@ module _ (circuit : Bytes) where
         passed = p;
         is-plan = plan-is e q p;
         text-is = ap (fileText Schedule) (same-schedule e q p);
+        exists = plan-exists (p .files .circuit-reads) (plan-is e q p);
         exact = passed-exact circuit (fileText Schedule s) p;
         best = plan-best e q p;
       }
 
-  module _ (out : Bytes) (r : Reply) (after : Bytes) where
-    plans : {o : Outcome} → PlanCase circuit o → Replied o out r after → r .number ≡ 0 → Plans circuit (take (r .length) after)
-    plans (unread n p e) a z = absurd (not-zero (number-told circuitContext circuit n p e) (sym (ap (λ (q : Reply). q .number) (a .reply)) ∙ z))
-    plans (few f p e q) a z = absurd (let six = ap (λ (q : Reply). q .number) (a .reply) in omega arith)
-    plans (written f s e q) a z = subst (Plans circuit) (sym (written-text out r after (fileText Schedule s) (a .reply) (a .bytes) z)) (plans-text e q)
+  case-comes-to : {o : Outcome} → PlanCase circuit o → PlanComesTo circuit o
+  case-comes-to (unread n p e) = Promises.unread n p (is-unread circuitContext circuit n p e)
+  case-comes-to (few f p e q) = Promises.too-few f p e (too-few-at f p (back e .formed) q)
+  case-comes-to (written f s e q) = Promises.plans (fileText Schedule s) (plans-text e q)
 
-    abbrev TooFewRead : Type 0
-    TooFewRead = ReadAs circuitContext circuit (λ file. TooFew (file .header) (file .lines) (r .place))
+  pub plan-comes-to : PlanComesTo circuit (planOutcome circuit)
+  plan-comes-to = case-comes-to plan-case
 
-    too-few : {o : Outcome} → PlanCase circuit o → Replied o out r after → r .number ≡ 6 → TooFewRead
-    too-few (unread n p e) a z = absurd (not-too-few (number-told circuitContext circuit n p e) (sym (ap (λ (q : Reply). q .number) (a .reply)) ∙ z))
-    too-few (few f p e q) a z = record { file = f; reads = e; is = too-few-at f p (back e .formed) q (ap (λ (q : Reply). q .place) (a .reply)) }
-    too-few (written f s e q) a z =
-        by-room out r after TooFewRead (fileText Schedule s) (a .reply) (a .bytes)
-        (λ u v w. absurd (let same = ap (λ (q : Reply). q .number) v in omega arith)) (λ v w. absurd (let same = ap (λ (q : Reply). q .number) v in omega arith))
+module _ (circuit out : Bytes) (r : Reply) (after : Bytes) where
+  abbrev Tells : Type 0
+  Tells = (f : File) → readText circuitContext circuit ≡ read f → (r .number ≡ 6) ↔ (Schedulable (f .header) (f .lines) → ⊥)
 
-    too-few-if : {o : Outcome} → PlanCase circuit o → Replied o out r after → (f : File) → Reads f → (Schedulable (f .header) (f .lines) → ⊥) → r .number ≡ 6
-    too-few-if (unread n p e) a f i none = not-both i e
-    too-few-if (few k p e q) a f i none = ap (λ (q : Reply). q .number) (a .reply)
-    too-few-if (written k s e q) a f i none =
-        absurd (none (subst (λ (x : File). Schedulable (x .header) (x .lines)) (one-file e i)
-        (Model.too-few-levels k (back e .formed) .writes-only (record { schedule = s; writes = q }))))
-
-    otherwise : {o : Outcome} → PlanCase circuit o → Replied o out r after → (f : File) → Reads f → Schedulable (f .header) (f .lines) → WritesPlan f (length out) (r .number)
-    otherwise (unread n p e) a f i S = not-both i e
-    otherwise (few k p e q) a f i S =
-        absurd (Model.too-few-levels k (back e .formed) .too-few-only (record { place = p; says = q })
-        (subst (λ (x : File). Schedulable (x .header) (x .lines)) (one-file i e) S))
-    otherwise (written k s e q) a f i S =
-        subst (λ (x : File). WritesPlan x (length out) (r .number)) (one-file e i)
-        (record { schedule = s; is-plan = q; fitting = fitting out r after (fileText Schedule s) a })
+  -- 6 exactly where no schedule exists
+  exactly : {o : Outcome} → PlanCase circuit o → Replied o out r after → Tells
+  exactly (unread n p e) a f i = not-both i e
+  exactly (few k p e q) a f i =
+      let none = Model.too-few-levels k (back circuit e .formed) .too-few-only (record { place = p; says = q }) in
+      (λ six S. none (subst (λ (x : File). Schedulable (x .header) (x .lines)) (one-file i e) S), λ n. ap (λ (q : Reply). q .number) (a .reply))
+  exactly (written k s e q) a f i =
+      let S = subst (λ (x : File). Schedulable (x .header) (x .lines)) (one-file e i) (plan-exists circuit e q) in (
+        λ six. absurd (by-room out r after ⊥ (fileText Schedule s) (a .reply) (a .bytes)
+            (λ u v w. let same = ap (λ (q : Reply). q .number) v in omega arith) (λ v w. let same = ap (λ (q : Reply). q .number) v in omega arith)),
+        λ n. absurd (n S),
+      )
 
 pub plan-promise : (circuit out : Bytes) (r : Reply) (after : Bytes) → Replied (planOutcome circuit) out r after → PlanPromise circuit out r after
 plan-promise circuit out r after a =
-    let case = plan-case circuit in
     record {
       inverse = text-inverse circuitContext (omega arith) circuit;
-      replies = lent-replies out r after (case-writing case) a;
-      plans = plans circuit out r after case a;
-      too-few = too-few circuit out r after case a;
-      too-few-if = too-few-if circuit out r after case a;
-      otherwise = otherwise circuit out r after case a;
+      call = record { outcome = planOutcome circuit; comes-to = plan-comes-to circuit; only = λ other c. one-plan circuit c (plan-comes-to circuit) };
+      replies = lent-replies out r after (case-writing (plan-case circuit)) a;
+      too-few-iff = exactly circuit out r after (plan-case circuit) a;
     }

@@ -21,7 +21,8 @@ use Rattle.text.proofs.Most.{text-most, two-numbers-most}
 use Rattle.text.proofs.Theorems as Text
 use Rattle.services.specs.declared.Reply.{Reply}
 use Rattle.services.specs.Program.{refusedLine, printed, programText, ProgramPromise}
-use Rattle.services.specs.Outcomes.{Outcome, writes, refuses, onceRead, planned, planOutcome, replyOf, bytesAfter, Replied}
+use Rattle.services.specs.Outcomes.{Outcome, writes, refuses, replyOf, bytesAfter, Replied}
+use Rattle.services.specs.Calls.{onceRead, planned, planOutcome}
 use Rattle.services.proofs.Planning.{PlanCase, unread, few, written, plan-case}
 use Rattle.services.proofs.Texts.{few-lines, number-told}
 use Rattle.text.proofs.Refusals.{not-zero}

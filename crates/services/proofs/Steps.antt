@@ -5,7 +5,8 @@ use Rattle.fields.specs.Pieces.{Bytes}
 use Rattle.model.specs.Files.{File}
 use Rattle.rows.specs.Rows.{Reading, read, refused}
 use Rattle.services.specs.declared.Reply.{Reply}
-use Rattle.services.specs.Outcomes.{Outcome, refuses, onceRead, replyOf, Replied}
+use Rattle.services.specs.Outcomes.{Outcome, refuses, replyOf, Replied}
+use Rattle.services.specs.Calls.{onceRead}
 
 module _ (number : ℕ) {x : Reading File} (more : File → Outcome) where
   pub once-read : (f : File) → x ≡ read f → more f ≡ onceRead number x more

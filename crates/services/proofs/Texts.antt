@@ -2,7 +2,7 @@
 -- Assumes nothing.
 use Prim.Native.Nat.{ℕ, _≤_}
 use native.Mathlib.Omega.{arith}
-use mathlib.Core.Path.{_≡_, sym, ap, _∙_}
+use mathlib.Core.Path.{_≡_, refl, sym, ap, _∙_}
 use mathlib.Core.List.{List}
 use lib.Dec.{T, leb, leb→le, le→leb}
 use lib.ListN.{length}
@@ -21,7 +21,7 @@ use Rattle.text.proofs.Statements.Refusals as Numbers
 use Rattle.text.proofs.FileLaws.{FileBack, kept-most, file-written-read, file-read-written}
 use Rattle.text.proofs.Unique.{text-of-one}
 use Rattle.text.proofs.Theorems as Text
-use Rattle.services.specs.Promises.{IsInverse, BothRead, Passed, IsExact}
+use Rattle.services.specs.Promises.{IsInverse, Unread, BothRead, Passed, IsExact}
 
 -- ---- readings
 -- a text is read or refused, and to one file
@@ -31,27 +31,20 @@ not-both e q = absurd (let z : _≡_ {A = ℕ} 0 1 = cc in omega arith)
 pub one-file : {x : Reading File} {f k : File} → x ≡ read f → x ≡ read k → f ≡ k
 one-file e q = cc
 
--- the numbers with which reading refuses are not 6, and above it 11 alone
-record Told (n : ℕ) : Type 0 where
-  not-six : n ≡ 6 → ⊥
-  above : 7 ≤ n → n ≡ 11
-
-told : {n : ℕ} → Numbers.IsNumber n → Told n
-told Numbers.form = omega arith
-told Numbers.header = omega arith
-told Numbers.many = omega arith
-told Numbers.operand = omega arith
-told Numbers.kind = omega arith
-told Numbers.range = omega arith
-
-pub not-too-few : {n : ℕ} → Numbers.IsNumber n → n ≡ 6 → ⊥
-not-too-few i = told i .not-six
-
-pub eleven : {n : ℕ} → Numbers.IsNumber n → 7 ≤ n → n ≡ 11
-eleven i = told i .above
+-- the numbers with which reading refuses
+told : {n : ℕ} → Numbers.IsNumber n → (n ≡ 11 → ⊥) → (1 ≤ n) × (n ≤ 5)
+told Numbers.form f = (omega arith, omega arith)
+told Numbers.header f = (omega arith, omega arith)
+told Numbers.many f = (omega arith, omega arith)
+told Numbers.operand f = (omega arith, omega arith)
+told Numbers.kind f = (omega arith, omega arith)
+told Numbers.range f = absurd (f refl)
 
 pub number-told : (c : Context) (text : Bytes) (n p : ℕ) → readText c text ≡ refused n p → Numbers.IsNumber n
 number-told c text n p e = Text.refusals .refusal c text n p e .number
+
+pub is-unread : (c : Context) (text : Bytes) (n p : ℕ) → readText c text ≡ refused n p → Unread c text n p
+is-unread c text n p e = record { is-refused = e; by-reading = told (number-told c text n p e) }
 
 pub few-lines : (c : Context) {text : Bytes} {f : File} → FileBack c text f → length (f .lines) ≤ c .limit
 few-lines c {text} {f} b = leb→le (length (f .lines)) (c .limit) (and-first (leb (length (f .lines)) (c .limit)) (leb (keptCount (f .lines)) (c .keptlimit)) (b .few))

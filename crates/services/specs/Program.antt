@@ -8,7 +8,8 @@ use Rattle.fields.specs.Pieces.{Bytes}
 use Rattle.rows.specs.Forms.{saidText}
 use Rattle.rows.specs.Lines.{textOf}
 use Rattle.model.specs.Words.{ascii}
-use Rattle.services.specs.Outcomes.{Outcome, writes, passes, fitsAt, refuses, planOutcome}
+use Rattle.services.specs.Outcomes.{Outcome, writes, passes, fitsAt, refuses}
+use Rattle.services.specs.Calls.{planOutcome}
 
 -- "A program reads a circuit on standard input and prints the schedule, or one line of `refused`, number and place, tab-parted and closed
 -- by a line feed."

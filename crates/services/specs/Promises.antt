@@ -1,8 +1,9 @@
--- The demands as promises about bytes, one record for each exported service.
+-- The demands as promises about bytes, one record for each exported service. What a call comes to is defined by cases, each with what is
+-- then known of the files; they lead to exactly one outcome, and the reply and the lent bytes are that outcome's.
 use Prim.Native.Nat.{ℕ, suc, _≤_, _<_}
 use mathlib.Core.Path.{_≡_}
 use mathlib.Core.Logic.{_↔_}
-use mathlib.Core.List.{List, _++_}
+use mathlib.Core.List.{List}
 use lib.Dec.{T}
 use lib.ListN.{length, take, drop}
 use lib.Signed.{_≤ℤ_}
@@ -11,19 +12,25 @@ use Rattle.model.specs.declared.Header.{Header}
 use Rattle.model.specs.declared.Line.{Line}
 use Rattle.model.specs.declared.Grammar.the-variants.{Circuit, Schedule}
 use Rattle.model.specs.Scales.{withTop}
-use Rattle.rows.specs.Rows.{placeOf, read}
+use Rattle.rows.specs.Rows.{placeOf, read, refused}
 use Rattle.model.specs.Files.{File, wellFormed, kindAt, isCiphertext}
 use Rattle.model.specs.Machine.{stopped, run}
 use Rattle.model.specs.Rules.{KeepsRules}
 use Rattle.model.specs.Machines.{Handed}
 use Rattle.model.specs.Plan.{bestMachine}
-use Rattle.model.specs.Services.{scheduled, plan, erase, eraseFile}
+use Rattle.model.specs.Services.{scheduled, plan, eraseFile}
 use Rattle.model.specs.Broken.{FirstBroken}
 use Rattle.model.specs.Demands.{Schedulable, Exact, reserveAt}
 use Rattle.text.specs.declared.Context.{Context}
 use Rattle.text.specs.Files.{readText, fewEnough, circuitContext, scheduleContext, eraseContext, fileText}
 use Rattle.services.specs.declared.Reply.{Reply}
-use Rattle.services.specs.Outcomes.{Outcome, planOutcome, checkOutcome, eraseOutcome, leastOutcome, replyOf, Replied}
+use Rattle.services.specs.Outcomes.{Outcome, writes, passes, fitsAt, refuses, replyOf, Replied}
+
+-- the one outcome to which the cases lead
+pub record TheOutcome (ComesTo : Outcome → Type 0) : Type 0 where
+  pub outcome : Outcome
+  pub comes-to : ComesTo outcome
+  pub only : (other : Outcome) → ComesTo other → other ≡ outcome
 
 -- ---- what is promised of the bytes that are lent, for a call that comes to this outcome. Demand 1: "gets one reply", "a refused call has
 -- written no byte into the buffers lent to it"
@@ -35,11 +42,6 @@ pub record Lent (outcome : Outcome) (out : Bytes) (r : Reply) (after : Bytes) : 
   pub length-fits : r .number ≡ 0 → r .length ≤ length out
   pub length-stays : length after ≡ length out
 
--- a text of so many bytes with so much room: written, or 13 where it does not fit. "13 buffer too short"
-pub data Fitting (needed room number : ℕ) : Type 0 where
-  fits : needed ≤ room → number ≡ 0 → Fitting needed room number
-  short : room < needed → number ≡ 13 → Fitting needed room number
-
 -- ---- demand 2
 -- "Text to table and table to text are inverse": a text is read as a file if and only if the file is well formed, has no more lines than
 -- allowed, and is written so.
@@ -50,6 +52,12 @@ pub record WrittenAs (c : Context) (text : Bytes) (file : File) : Type 0 where
 
 abbrev pub IsInverse : Context → Bytes → Type 0
 IsInverse c text = (file : File) → (readText c text ≡ read file) ↔ WrittenAs c text file
+
+-- a text is refused where it is read
+pub record Unread (c : Context) (text : Bytes) (number place : ℕ) : Type 0 where
+  pub is-refused : readText c text ≡ refused number place
+  -- what follows: by 1 to 5, or 11
+  pub by-reading : (number ≡ 11 → ⊥) → (1 ≤ number) × (number ≤ 5)
 
 -- both files are read
 pub record BothRead (circuit schedule : Bytes) : Type 0 where
@@ -72,19 +80,14 @@ IsExact circuit schedule p =
     let schedule-file = p .files .schedule-file in
     (H : Handed) → Exact H (schedule-file .header) (p .files .circuit-file .lines) (schedule-file .lines)
 
--- a text is read as a file of which this is so
-pub record ReadAs (c : Context) (text : Bytes) (Is : File → Type 0) : Type 0 where
-  pub file : File
-  pub reads : readText c text ≡ read file
-  pub is : Is file
-
 -- 6 at this place, of the lines of a circuit under a header: no schedule exists, and it is told "at the first line with best reserve below
 -- zero": the lines before it have a schedule, and with it they have none
 pub record TooFew (h : Header) (lines : List Line) (place : ℕ) : Type 0 where
-  pub no-schedule : Schedulable h lines → ⊥
   pub line : ℕ
   pub place-is : place ≡ placeOf line
   pub stops : run (bestMachine h) lines ≡ stopped line 6
+  -- what follows
+  pub no-schedule : Schedulable h lines → ⊥
   pub below : line < length lines
   pub before : Schedulable h (take line lines)
   pub with-it : Schedulable h (take (suc line) lines) → ⊥
@@ -98,32 +101,32 @@ IsBest circuit schedule p =
     → reserveAt (other .keeps) j ≤ℤ reserveAt (p .keeps) j
 
 -- ---- plan
--- "What our planner writes is the plan that document 01 defines, and it passes"; it is exact, and each ciphertext line has the best
--- reserve
+-- "What our planner writes is the plan that document 01 defines, and it passes"; there is a schedule, this one; it is exact, and each
+-- ciphertext line has the best reserve
 pub record Plans (circuit written : Bytes) : Type 0 where
   pub passed : Passed circuit written
   pub is-plan : plan (passed .files .circuit-file) ≡ scheduled (passed .files .schedule-file)
   pub text-is : written ≡ fileText Schedule (passed .files .schedule-file)
+  -- what follows
+  pub exists : Schedulable (passed .files .circuit-file .header) (passed .files .circuit-file .lines)
   pub exact : IsExact circuit written passed
   pub best : IsBest circuit written passed
 
--- what is written where there is a schedule: the plan, if the buffer holds it
-pub record WritesPlan (file : File) (room number : ℕ) : Type 0 where
-  pub schedule : File
-  pub is-plan : plan file ≡ scheduled schedule
-  pub fitting : Fitting (length (fileText Schedule schedule)) room number
+-- "planning, once all is read without a refusal, says it exactly when there is none, and otherwise writes the plan of 2 if the buffer
+-- holds it"
+pub data PlanComesTo (circuit : Bytes) : Outcome → Type 0 where
+  unread : (number place : ℕ) → Unread circuitContext circuit number place → PlanComesTo circuit (refuses number 1 place)
+  too-few : (file : File) (place : ℕ) → readText circuitContext circuit ≡ read file → TooFew (file .header) (file .lines) place
+      → PlanComesTo circuit (refuses 6 1 place)
+  plans : (written : Bytes) → Plans circuit written → PlanComesTo circuit (writes written)
 
 pub record PlanPromise (circuit out : Bytes) (r : Reply) (after : Bytes) : Type 0 where
   pub inverse : IsInverse circuitContext circuit
-  pub replies : Lent (planOutcome circuit) out r after
-  pub plans : r .number ≡ 0 → Plans circuit (take (r .length) after)
-  pub too-few : r .number ≡ 6 → ReadAs circuitContext circuit (λ file. TooFew (file .header) (file .lines) (r .place))
-  -- "planning, once all is read without a refusal, says it exactly when there is none, and otherwise writes the plan of 2 if the buffer
-  -- holds it"
-  pub too-few-if : (file : File) → readText circuitContext circuit ≡ read file
-      → (Schedulable (file .header) (file .lines) → ⊥) → r .number ≡ 6
-  pub otherwise : (file : File) → readText circuitContext circuit ≡ read file
-      → Schedulable (file .header) (file .lines) → WritesPlan file (length out) (r .number)
+  pub call : TheOutcome (PlanComesTo circuit)
+  pub replies : Lent (call .outcome) out r after
+  -- "exactly when there is none"
+  pub too-few-iff : (file : File) → readText circuitContext circuit ≡ read file
+      → (r .number ≡ 6) ↔ (Schedulable (file .header) (file .lines) → ⊥)
 
 -- ---- check
 -- "place of the first circuit line that differs, or one past the shorter file": the first of the texts between line feeds that differs,
@@ -134,66 +137,74 @@ pub record TextsDifferAt (xs ys : List Bytes) (place : ℕ) : Type 0 where
   pub before : take line xs ≡ take line ys
   pub with-it : take (suc line) xs ≡ take (suc line) ys → ⊥
 
--- what number, file and place say of a circuit and a schedule that both read. "12 erases to another circuit", "(12: the circuit)"; "12,
--- then per line 7, 8, 10, 9"
-pub data Verdict (circuit : Bytes) (schedule : File) : ℕ → ℕ → ℕ → Type 0 where
+-- a circuit and a schedule that both read. "12 erases to another circuit", "(12: the circuit)"; "12, then per line 7, 8, 10, 9"
+pub data Verdict (circuit : Bytes) (schedule : File) : Outcome → Type 0 where
   keeps-rules : fileText Circuit (eraseFile schedule) ≡ circuit → KeepsRules (schedule .header) (schedule .lines)
-      → Verdict circuit schedule 0 0 0
+      → Verdict circuit schedule passes
   other-circuit : (place : ℕ) → TextsDifferAt (split lineFeed circuit) (split lineFeed (fileText Circuit (eraseFile schedule))) place
-      → Verdict circuit schedule 12 1 place
+      → Verdict circuit schedule (refuses 12 1 place)
   breaks-rule : (number place : ℕ) → fileText Circuit (eraseFile schedule) ≡ circuit
-      → FirstBroken (schedule .header) (schedule .lines) number place → Verdict circuit schedule number 2 place
+      → FirstBroken (schedule .header) (schedule .lines) number place → Verdict circuit schedule (refuses number 2 place)
+
+-- "Files are read top to bottom, circuit first"
+pub data CheckComesTo (circuit schedule : Bytes) : Outcome → Type 0 where
+  circuit-unread : (number place : ℕ) → Unread circuitContext circuit number place → CheckComesTo circuit schedule (refuses number 1 place)
+  schedule-unread : (file : File) (number place : ℕ) → readText circuitContext circuit ≡ read file
+      → Unread scheduleContext schedule number place → CheckComesTo circuit schedule (refuses number 2 place)
+  both-read : (b : BothRead circuit schedule) (outcome : Outcome) → Verdict circuit (b .schedule-file) outcome
+      → CheckComesTo circuit schedule outcome
 
 pub record CheckPromise (circuit schedule : Bytes) (r : Reply) : Type 0 where
   pub inverse-circuit : IsInverse circuitContext circuit
   pub inverse-schedule : IsInverse scheduleContext schedule
-  pub reply : r ≡ replyOf (checkOutcome circuit schedule)
-  pub passes : (r .number ≡ 0) ↔ Passed circuit schedule
+  pub call : TheOutcome (CheckComesTo circuit schedule)
+  pub reply : r ≡ replyOf (call .outcome)
+  pub zero-is-passed : (r .number ≡ 0) ↔ Passed circuit schedule
   pub exact : (p : Passed circuit schedule) → IsExact circuit schedule p
-  pub verdict : (b : BothRead circuit schedule) → Verdict circuit (b .schedule-file) (r .number) (r .file) (r .place)
-  -- 7 to 10 and 12 are said of no other files
-  pub both-read : 7 ≤ r .number → (r .number ≡ 11 → ⊥) → BothRead circuit schedule
 
--- ---- erase
--- the erasure's text, which is a circuit
-pub record Erases (written : Bytes) (file : File) : Type 0 where
-  pub text-is : written ≡ fileText Circuit (eraseFile file)
-  pub circuit-reads : readText circuitContext written ≡ read (eraseFile file)
+-- ---- erase: the erasure's text, which is a circuit
+pub data EraseComesTo (schedule : Bytes) : Outcome → Type 0 where
+  unread : (number place : ℕ) → Unread eraseContext schedule number place → EraseComesTo schedule (refuses number 1 place)
+  erases : (file : File) (written : Bytes) → readText eraseContext schedule ≡ read file → written ≡ fileText Circuit (eraseFile file)
+      → readText circuitContext written ≡ read (eraseFile file) → EraseComesTo schedule (writes written)
 
 pub record ErasePromise (schedule out : Bytes) (r : Reply) (after : Bytes) : Type 0 where
   pub inverse : IsInverse eraseContext schedule
-  pub replies : Lent (eraseOutcome schedule) out r after
-  pub erases : r .number ≡ 0 → ReadAs eraseContext schedule (Erases (take (r .length) after))
-  pub otherwise : (file : File) → readText eraseContext schedule ≡ read file
-      → Fitting (length (fileText Circuit (eraseFile file))) (length out) (r .number)
+  pub call : TheOutcome (EraseComesTo schedule)
+  pub replies : Lent (call .outcome) out r after
 
 -- ---- least level
 -- the circuit with another top level in its header
-abbrev pub withLevel : File → ℕ → Bytes
-withLevel file l = fileText Circuit (record { header = withTop (file .header) l; lines = file .lines })
+abbrev pub withLevel : File → ℕ → File
+withLevel file l = record { header = withTop (file .header) l; lines = file .lines }
 
 abbrev pub Fits : File → ℕ → Type 0
 Fits file l = Schedulable (withTop (file .header) l) (file .lines)
 
 -- "it must fit, and the level below must not"
-pub record Least (l : ℕ) (file : File) : Type 0 where
+pub record Least (file : File) (l : ℕ) : Type 0 where
   pub low : 1 ≤ l
   pub high : l ≤ 60
   pub fits : Fits file l
   pub least : (k : ℕ) → 1 ≤ k → k < l → Fits file k → ⊥
   -- "the whole of demand 3 is owed": with this level in its header the circuit is planned, for whatever buffer holds the plan
   pub written : Bytes
-  pub plans : Plans (withLevel file l) written
+  pub reads : readText circuitContext (fileText Circuit (withLevel file l)) ≡ read (withLevel file l)
+  pub plans : Plans (fileText Circuit (withLevel file l)) written
 
 -- 6: "(least level: at L = 60)"; then no lower level fits either
-pub record NoneFits (place : ℕ) (file : File) : Type 0 where
+pub record NoneFits (file : File) (place : ℕ) : Type 0 where
   pub none-fits : (k : ℕ) → 1 ≤ k → k ≤ 60 → Fits file k → ⊥
   pub at-sixty : TooFew (withTop (file .header) 60) (file .lines) place
 
+pub data LeastComesTo (circuit : Bytes) : Outcome → Type 0 where
+  unread : (number place : ℕ) → Unread circuitContext circuit number place → LeastComesTo circuit (refuses number 1 place)
+  fits-from : (file : File) (l : ℕ) → readText circuitContext circuit ≡ read file → Least file l → LeastComesTo circuit (fitsAt l)
+  too-few : (file : File) (place : ℕ) → readText circuitContext circuit ≡ read file → NoneFits file place
+      → LeastComesTo circuit (refuses 6 1 place)
+
 pub record LeastPromise (circuit : Bytes) (r : Reply) : Type 0 where
   pub inverse : IsInverse circuitContext circuit
-  pub reply : r ≡ replyOf (leastOutcome circuit)
-  pub least : r .number ≡ 0 → ReadAs circuitContext circuit (Least (r .length))
-  pub too-few : r .number ≡ 6 → ReadAs circuitContext circuit (NoneFits (r .place))
-  pub too-few-if : (file : File) → readText circuitContext circuit ≡ read file → (Fits file 60 → ⊥) → r .number ≡ 6
-  pub otherwise : (file : File) → readText circuitContext circuit ≡ read file → Fits file 60 → r .number ≡ 0
+  pub call : TheOutcome (LeastComesTo circuit)
+  pub reply : r ≡ replyOf (call .outcome)
+  pub too-few-iff : (file : File) → readText circuitContext circuit ≡ read file → (r .number ≡ 6) ↔ (Fits file 60 → ⊥)

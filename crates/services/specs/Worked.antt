@@ -16,11 +16,12 @@ use Rattle.model.specs.declared.Found.the-variants as Founds
 use Rattle.rows.specs.Rows.{placeOf, Reading, read, refused}
 use Rattle.model.specs.Files.{File}
 use Rattle.model.specs.Machine.{Run, finished, stopped, run}
-use Rattle.model.specs.Refused.{checkMachine}
+use Rattle.model.specs.Answers.{checkMachine}
 use Rattle.text.specs.Files.{readText, scheduleContext}
 use Rattle.services.specs.declared.Reply.{Reply}
 use Rattle.services.specs.Outcomes.{Outcome, writes, passes, fitsAt, refuses}
-use Rattle.services.specs.Outcomes.{planOutcome, checkOutcome, eraseOutcome, leastOutcome, lent, replyOf}
+use Rattle.services.specs.Outcomes.{lent, replyOf}
+use Rattle.services.specs.Calls.{planOutcome, checkOutcome, eraseOutcome, leastOutcome}
 use Rattle.services.specs.Program.{programText}
 
 -- a text "shown here with spaces for tabs"

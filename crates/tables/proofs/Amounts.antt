@@ -10,7 +10,7 @@ use mir.Val.{Fits, SFits, toZ, ofZ}
 use mir.ValLaws.{toZ-ofZ, toZ-pos}
 use Rattle.ints.specs.Parts.{positive, negative}
 use Rattle.ints.proofs.Linear.{parts+, parts-, one-part, whole-part, ≡-goal}
-use Rattle.tables.specs.Records.{amountFrom}
+use Rattle.tables.specs.Records.{amountFrom, amountTo}
 
 -- z as an `i16` and as an `i32` hold it
 abbrev short : ℤ → ℤ
@@ -73,6 +73,14 @@ module _ (z : ℤ) (h : SFits w16 z) where
   number-held = rw (toZ-ofZ w32 (wide (short z) +ℤ toZ w32 32768) sum-fits, sum-is) (held-sum z h)
 
 -- ---- from a number to its amount
+pub amount-back : (n : ℕ) → amountTo (amountFrom n) ≡ n
+unfolding amountTo amountFrom
+amount-back n =
+    let sum = pos n -ℤ pos 32768 +ℤ pos 32768 in
+    one-part sum (positive sum ≡ n)
+    (λ none. omega (arith, parts+ (pos n -ℤ pos 32768) (pos 32768), parts- (pos n) (pos 32768)))
+    (λ none. omega (arith, parts+ (pos n -ℤ pos 32768) (pos 32768), parts- (pos n) (pos 32768)))
+
 module _ (n : ℕ) (h : Fits w16 n) where
   difference-is : toZ w32 n -ℤ toZ w32 32768 ≡ amountFrom n
   unfolding amountFrom

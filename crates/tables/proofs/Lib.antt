@@ -1,6 +1,6 @@
 pub mod Amounts
 pub mod HeldLines
-pub mod Levels
 pub mod Operands
 pub mod Records
+pub mod Sameness
 pub mod Words

@@ -2,10 +2,11 @@
 use Prim.Native.Nat.{ℕ, _≤_, _<_}
 use native.Mathlib.Decide.{decLe}
 use native.Mathlib.Omega.{arith}
-use mathlib.Core.Bool.{cond}
+use mathlib.Core.Bool.{Bool, true, false, cond, not}
 use mathlib.Core.Path.{_≡_, refl, sym, ap, _∙_}
 use mathlib.Core.List.{List, [], _∷_}
 use borrow.Author.Needs.{needs}
+use lib.Dec.{T, ltb}
 use lib.IntN.{ℤ, pos}
 use lib.ListN.{length, getD, length-take, List·getD-map, List·getD-eq-default}
 use lib.Seq.{getD-take}
@@ -17,21 +18,40 @@ use Rattle.model.specs.declared.Line.the-variants.{Free}
 use Rattle.model.specs.declared.Kind.{Kind}
 use Rattle.model.specs.declared.Kind.the-variants.{Nothing}
 use Rattle.model.specs.declared.Word.{Word}
-use Rattle.model.specs.declared.Word.the-variants.{In, Const, Neg, Rot, Add, Mul, Out, Enc, Rs, Ms, Us, NoWord}
-use Rattle.model.specs.Words.{entry, words, sameWord}
+use Rattle.model.specs.declared.Word.the-variants.{Rot, NoWord}
+use Rattle.model.specs.Words.{entry, words}
+use Rattle.model.specs.Numbering.{sameWord}
 use Rattle.model.specs.Files as Files
-use Rattle.model.specs.Files.{wordOf, kindOf, kindAt}
-use Rattle.model.proofs.EveryWord.{every-word, same-word}
-use Rattle.tables.specs.Records.{amountFrom, levelOf, wordNumber, wordFrom, lineWith, lineFrom, lineOf, linesOf, linesHeld}
+use Rattle.model.specs.Files.{wordOf, kindOf, kindAt, isConstant}
+use Rattle.model.proofs.EveryWord.{every, every-word, same-word}
+use Rattle.tables.proofs.Amounts.{amount-back}
+use Rattle.tables.specs.Records.{amountFrom, levelOf, wordNumber, wordFrom, recordWith, recordOf, lineWith, lineFrom, lineOf, linesOf, linesHeld, struckWord, isStruck}
 
-pub rotation-held : (x : Line) (a n : ℕ) (t : ℤ) → amountFrom n ≡ t → x ≡ Lines.Rot a t → Lines.Rot a (amountFrom n) ≡ x
-rotation-held x a n t e is = ap (Lines.Rot a) e ∙ sym is
-
+-- ---- the record of a line
 pub level-fits : (x : Line) (a s e : ℕ) → levelOf x ≤ 65535 → x ≡ Lines.Enc a s e → Fits w16 e
 level-fits x a s e few is = record { fits = omega (arith, ap levelOf is) }
 
-pub encoded-held : (x : Line) (a b c : ℕ) → x ≡ Lines.Enc a b c → Lines.Enc a b c ≡ x
-encoded-held x a b c is = sym is
+-- the record of a word and its three numbers
+pub record-line : (w : Word) (n a b c : ℕ) → n ≡ wordNumber w → lineOf (n ∷ a ∷ b ∷ c ∷ []) ≡ lineWith w a b c
+unfolding lineOf lineFrom
+record-line w n a b c e =
+    ap (λ (v : Word). lineWith v a b c) (ap wordFrom e ∙ same-word (wordFrom (wordNumber w)) w (every-word (λ v. sameWord (wordFrom (wordNumber v)) v) tt w))
+
+module _ (x : Line) (r : List ℕ) where
+  pub recorded : (y : Line) → x ≡ y → r ≡ recordOf y → r ≡ recordOf x
+  recorded y e is = rw e is
+
+  pub held-by : (y : Line) → x ≡ y → lineOf r ≡ y → lineOf r ≡ x
+  held-by y e is = is ∙ sym e
+
+  module _ (a n : ℕ) (t : ℤ) (e : x ≡ Lines.Rot a t) (amount : amountFrom n ≡ t) where
+    pub rotation-recorded : r ≡ recordWith Rot a n 0 → r ≡ recordOf x
+    rotation-recorded is = is ∙ rw (e, ← amount, amount-back n)
+
+    pub rotation-held : lineOf r ≡ lineWith Rot a n 0 → lineOf r ≡ x
+    rotation-held is = is ∙ ap (Lines.Rot a) amount ∙ sym e
+
+pub ruleset record-laws = (needs, level-fits, record-line, recorded, held-by, rotation-recorded, rotation-held)
 
 -- the line of record i, where the code has read its four numbers
 pub line-held :
@@ -76,29 +96,31 @@ pub word-line : (w v : Word) (n a b c : ℕ) (x : Line) → w ≡ wordFrom n →
 unfolding lineFrom
 word-line w v n a b c x from is e = e ∙ ap (λ (u : Word). lineWith u a b c) (sym is ∙ from)
 
-pub ruleset record-laws = (needs, level-fits, rotation-held, encoded-held)
-
 pub ruleset word-laws = (needs, word-line)
 
 -- ---- the kind of a line by its record's first number
 pub line-word : (w : Word) (ns : List ℤ) → wordOf (Files.lineOf w ns) ≡ w
-line-word In ns = refl
-line-word Const ns = refl
-line-word Neg ns = refl
-line-word Rot ns = refl
-line-word Add ns = refl
-line-word Mul ns = refl
-line-word Out ns = refl
-line-word Enc ns = refl
-line-word Rs ns = refl
-line-word Ms ns = refl
-line-word Us ns = refl
-line-word NoWord ns = refl
+line-word w ns = same-word (wordOf (Files.lineOf w ns)) w (every-word (λ v. sameWord (wordOf (Files.lineOf v ns)) v) tt w)
 
-kind-from : (n a b c : ℕ) → kindOf (lineFrom n a b c) ≡ entry (wordFrom n) .kind
+word-held : (n a b c : ℕ) → wordOf (lineFrom n a b c) ≡ wordFrom n
 unfolding lineFrom
-kind-from n a b c =
-    ap (λ (w : Word). entry w .kind) (line-word (wordFrom n) (pos a ∷ cond (sameWord (wordFrom n) Rot) (amountFrom b) (pos b) ∷ pos c ∷ []))
+word-held n a b c = line-word (wordFrom n) (pos a ∷ cond (sameWord (wordFrom n) Rot) (amountFrom b) (pos b) ∷ pos c ∷ [])
+
+-- the word of record i, where the code has read its first number
+word-at : (records : List (List ℕ)) (i : ℕ) (w : Word) → w ≡ wordFrom (getD (getD records i []) 0 0) → w ≡ wordOf (getD (linesOf records) i Free)
+unfolding lineOf lineFrom
+word-at records i w is =
+    is
+    ∙ sym (word-held (getD (getD records i []) 0 0) (getD (getD records i []) 1 0) (getD (getD records i []) 2 0) (getD (getD records i []) 3 0))
+    ∙ ap wordOf (line-held records i _ refl)
+
+kind-held : (records : List (List ℕ)) (a : ℕ) (w : Word) (k : Kind) → w ≡ wordFrom (getD (getD records a []) 0 0) → k ≡ entry w .kind → k ≡ kindAt (linesOf records) a
+kind-held records a w k is e = e ∙ ap (λ (v : Word). entry v .kind) (word-at records a w is)
+
+pub constant-held :
+    (records : List (List ℕ)) (a : ℕ) (w : Word) (k v : Kind) (b : Bool) → w ≡ wordFrom (getD (getD records a []) 0 0) → k ≡ entry w .kind → k ≡ v →
+    isConstant v ≡ b → b ≡ isConstant (kindAt (linesOf records) a)
+constant-held records a w k v b is e which test = sym test ∙ ap isConstant (sym which ∙ kind-held records a w k is e)
 
 module _ (records : List (List ℕ)) (count : ℕ) (few : count ≤ length records) (a : ℕ) where
   pub kind-past : count ≤ a → Nothing ≡ kindAt (linesHeld records count) a
@@ -107,16 +129,30 @@ module _ (records : List (List ℕ)) (count : ℕ) (few : count ≤ length recor
       ap kindOf (sym (List·getD-eq-default (linesHeld records count) Free long))
 
   pub kind-there : (w : Word) (k : Kind) → a < count → w ≡ wordFrom (getD (getD records a []) 0 0) → k ≡ entry w .kind → k ≡ kindAt (linesHeld records count) a
-  unfolding lineOf lineFrom
-  kind-there w k h is e =
-      e ∙ ap (λ (v : Word). entry v .kind) is
-      ∙ sym (kind-from (getD (getD records a []) 0 0) (getD (getD records a []) 1 0) (getD (getD records a []) 2 0) (getD (getD records a []) 3 0))
-      ∙ ap kindOf (line-held records a _ refl ∙ sym (getD-take count (linesOf records) a Free h))
+  kind-there w k h is e = kind-held records a w k is e ∙ ap kindOf (sym (getD-take count (linesOf records) a Free h))
 
-pub ruleset kind-laws = (needs, kind-past, kind-there)
+pub ruleset kind-laws = (needs, kind-past, kind-there, constant-held)
 
--- ---- the record of a word and its three numbers
-pub record-line : (w : Word) (n a b c : ℕ) → n ≡ wordNumber w → lineOf (n ∷ a ∷ b ∷ c ∷ []) ≡ lineWith w a b c
-unfolding lineOf lineFrom
-record-line w n a b c e =
-    ap (λ (v : Word). lineWith v a b c) (ap wordFrom e ∙ same-word (wordFrom (wordNumber w)) w (every-word (λ v. sameWord (wordFrom (wordNumber v)) v) tt w))
+-- ---- two tests that say the same of every word
+same-bool : (b c : Bool) → T (cond b c (not c)) → b ≡ c
+same-bool true true t = refl
+same-bool true false t = absurd t
+same-bool false true t = absurd t
+same-bool false false t = refl
+
+abbrev agrees : (Word → Bool) → (Word → Bool) → Word → Bool
+agrees p q w = cond (p w) (q w) (not (q w))
+
+pub every-same : (p q : Word → Bool) → T (every (agrees p q)) → (w : Word) → p w ≡ q w
+every-same p q t w = same-bool (p w) (q w) (every-word (agrees p q) t w)
+
+-- the words that erasing strikes have the highest numbers
+pub struck-is : (w : Word) (n : ℕ) → n ≡ wordNumber w → ltb 7 n ≡ struckWord w
+struck-is w n e = ap (ltb 7) e ∙ every-same (λ v. ltb 7 (wordNumber v)) struckWord tt w
+
+pub struck-there :
+    (records : List (List ℕ)) (i : ℕ) (w : Word) (b : Bool) → w ≡ wordFrom (getD (getD records i []) 0 0) → b ≡ struckWord w →
+    b ≡ isStruck (getD (linesOf records) i Free)
+struck-there records i w b is e = e ∙ ap struckWord (word-at records i w is)
+
+pub ruleset struck-laws = (needs, struck-is, struck-there)

@@ -1,23 +1,28 @@
 -- A table's records as the code holds them: four numbers of 16 bits each, the word's, in document 01's order from 1, and then its fields, 0
 -- where it has none. A record whose first number is no word's holds no line: it is free.
 use Prim.Native.Nat.{ℕ, _+_}
-use mathlib.Core.Bool.{cond}
+use mathlib.Core.Bool.{Bool, cond, not, _&&_}
 use mathlib.Core.List.{List, [], _∷_, map}
-use lib.IntN.{ℤ, pos, _-ℤ_}
+use lib.IntN.{ℤ, pos, _+ℤ_, _-ℤ_}
 use lib.ListN.{getD, take, replicate}
+use Rattle.ints.specs.Parts.{positive}
 use Rattle.model.specs.declared.Header.{Header}
 use Rattle.model.specs.declared.Line.{Line}
-use Rattle.model.specs.declared.Grammar.the-variants.{Schedule}
+use Rattle.model.specs.declared.Grammar.the-variants.{Circuit, Schedule}
 use Rattle.model.specs.declared.Word.{Word}
 use Rattle.model.specs.declared.Word.the-variants.{Rot, NoWord}
-use Rattle.model.specs.Words.{words, order, sameWord, hasWord}
+use Rattle.model.specs.Words.{words, hasWord}
+use Rattle.model.specs.Numbering.{order, sameWord}
 use Rattle.model.specs.Files as Files
-use Rattle.model.specs.Files.{said, nth}
+use Rattle.model.specs.Files.{said, nth, wordOf}
 use Rattle.text.specs.Tables.{Table}
 
 -- a rotation's amount is held as a number that is not below zero: 32,768 more
 unfoldable pub amountFrom : ℕ → ℤ
 amountFrom n = pos n -ℤ pos 32768
+
+unfoldable pub amountTo : ℤ → ℕ
+amountTo t = positive (t +ℤ pos 32768)
 
 -- the level that a line names, its third number, 0 where it names none: the one number that is wider in a line than in its record
 abbrev pub levelOf : Line → ℕ
@@ -30,12 +35,29 @@ wordNumber w = cond (hasWord Schedule w) (order w + 1) 0
 abbrev pub wordFrom : ℕ → Word
 wordFrom n = getD (NoWord ∷ words) n NoWord
 
+-- "striking out the encode, rescale, modswitch and upscale lines": whether a word is a schedule's own, and whether a line's is
+abbrev pub struckWord : Word → Bool
+struckWord w = hasWord Schedule w && not (hasWord Circuit w)
+
+abbrev pub isStruck : Line → Bool
+isStruck x = struckWord (wordOf x)
+
 -- the line of a word and the three numbers after its own
 abbrev pub lineWith : Word → ℕ → ℕ → ℕ → Line
 lineWith w a b c = Files.lineOf w (pos a ∷ cond (sameWord w Rot) (amountFrom b) (pos b) ∷ pos c ∷ [])
 
 unfoldable pub lineFrom : ℕ → ℕ → ℕ → ℕ → Line
 lineFrom n a b c = lineWith (wordFrom n) a b c
+
+-- the record of a word and three numbers, and the record that holds a line
+abbrev pub recordWith : Word → ℕ → ℕ → ℕ → List ℕ
+recordWith w a b c = wordNumber w ∷ a ∷ b ∷ c ∷ []
+
+abbrev pub recordOf : Line → List ℕ
+recordOf x =
+    let w = wordOf x in
+    let ns = said x .numbers in
+    recordWith w (nth ns 0) (cond (sameWord w Rot) (amountTo (getD ns 1 (pos 0))) (nth ns 1)) (nth ns 2)
 
 -- the line that a record holds
 unfoldable pub lineOf : List ℕ → Line

@@ -1,5 +1,4 @@
 // What the code of several crates asks of a line and of a table: which values a line names, and the record that holds a line.
-use model::Best;
 use model::Kind;
 use model::Line;
 use model::Word;
@@ -9,13 +8,9 @@ ghost use lib.ListN.{length, getD};
 ghost use Rattle.model.specs.declared.Line.the-variants.{Free};
 ghost use Rattle.tables.specs.Operands.{firstOperand, secondOperand, withOperands};
 ghost use Rattle.model.specs.Words.{entry};
-ghost use Rattle.model.specs.Files.{kindAt};
-ghost use Rattle.tables.specs.Records.{amountFrom, levelOf, wordNumber, wordFrom, lineFrom, lineOf, linesOf, linesHeld};
-
-// What the plan knows of a circuit line, as one entry of an array.
-pub struct BestEntry {
-    pub best: Best,
-}
+ghost use Rattle.model.specs.Files.{kindAt, isConstant};
+ghost use Rattle.model.specs.Answers.{sameLine};
+ghost use Rattle.tables.specs.Records.{amountFrom, levelOf, wordNumber, wordFrom, recordWith, recordOf, lineWith, lineFrom, lineOf, linesOf, linesHeld, struckWord, isStruck};
 
 // ---- words
 // The number of a word in a record: the words in document 01's order from 1; 0 is no word's.
@@ -78,7 +73,20 @@ fn kind_of(word: Word) -> Kind
     }
 }
 
+// Whether erasing strikes the lines with this word: a schedule's own words come after those of a circuit.
+fn is_struck(word: Word) -> bool
+    ensures { λ r. ⌜ r ≡ struckWord word ⌝ }
+{
+    7 < number_of(word)
+}
+
 // ---- records
+// A line as its table holds it: its word's number, then its fields, 0 past them.
+pub type Record = [u16; 4];
+
+// The record of a free line.
+pub const FREE: Record = [0, 0, 0, 0];
+
 // A rotation's amount as its record holds it.
 pub fn shifted(amount: i16) -> u16
     ensures { λ r. ⌜ amountFrom r ≡ amount ⌝ }
@@ -92,27 +100,33 @@ fn amount_from(number: u16) -> i16
     ((number as i32) - 32768) as i16
 }
 
+// The record with this word and these numbers.
+pub fn record_with(word: Word, first: u16, second: u16, third: u16) -> Record
+    ensures { λ r. ⌜ r ≡ recordWith word first second third ⌝ }
+    ensures line { λ r. ⌜ lineOf r ≡ lineWith word first second third ⌝ }
+{
+    [number_of(word), first, second, third]
+}
+
 // The record that holds a line.
-pub fn record_of(line: Line) -> [u16; 4]
+pub fn record_of(line: Line) -> Record
     requires { ⌜ levelOf line ≤ 65535 ⌝ }
-    ensures { λ r. ⌜ lineOf r ≡ line ⌝ }
+    ensures { λ r. ⌜ r ≡ recordOf line ⌝ }
+    ensures line { λ r. ⌜ lineOf r ≡ line ⌝ }
 {
     match line {
-        Line::In => [1, 0, 0, 0],
-        Line::Const(k) => [2, k, 0, 0],
-        Line::Neg(a) => [3, a, 0, 0],
-        Line::Rot(a, amount) => {
-            let number = shifted(amount);
-            [4, a, number, 0]
-        }
-        Line::Add(a, b) => [5, a, b, 0],
-        Line::Mul(a, b) => [6, a, b, 0],
-        Line::Out(a) => [7, a, 0, 0],
-        Line::Enc { of, scale, level } => [8, of, scale, level as u16],
-        Line::Rs(a, levels) => [9, a, levels, 0],
-        Line::Ms(a, levels) => [10, a, levels, 0],
-        Line::Us(a, bits) => [11, a, bits, 0],
-        Line::Free => [0, 0, 0, 0],
+        Line::In => record_with(Word::In, 0, 0, 0),
+        Line::Const(k) => record_with(Word::Const, k, 0, 0),
+        Line::Neg(a) => record_with(Word::Neg, a, 0, 0),
+        Line::Rot(a, amount) => record_with(Word::Rot, a, shifted(amount), 0),
+        Line::Add(a, b) => record_with(Word::Add, a, b, 0),
+        Line::Mul(a, b) => record_with(Word::Mul, a, b, 0),
+        Line::Out(a) => record_with(Word::Out, a, 0, 0),
+        Line::Enc { of, scale, level } => record_with(Word::Enc, of, scale, level as u16),
+        Line::Rs(a, levels) => record_with(Word::Rs, a, levels, 0),
+        Line::Ms(a, levels) => record_with(Word::Ms, a, levels, 0),
+        Line::Us(a, bits) => record_with(Word::Us, a, bits, 0),
+        Line::Free => record_with(Word::NoWord, 0, 0, 0),
     }
 }
 
@@ -142,7 +156,7 @@ fn line_from(number: u16, a: u16, b: u16, c: u16) -> Line
 }
 
 // The line that record i holds.
-pub fn line_at(records: &[[u16; 4]], i: usize) -> Line
+pub fn line_at(records: &[Record], i: usize) -> Line
     requires { ⌜ i < length (now records) ⌝ }
     ensures { λ r. ⌜ r ≡ getD (linesOf (now (records .entry))) i Free ⌝ }
     ensures level { λ r. ⌜ levelOf r ≤ 65535 ⌝ }
@@ -152,7 +166,7 @@ pub fn line_at(records: &[[u16; 4]], i: usize) -> Line
 }
 
 // The kind of value a among the lines of the first `count` records; past them there is nothing.
-pub fn kind_at(records: &[[u16; 4]], count: usize, a: u64) -> Kind
+pub fn kind_at(records: &[Record], count: usize, a: u64) -> Kind
     requires { ⌜ count ≤ length (now records) ⌝ }
     ensures { λ r. ⌜ r ≡ kindAt (linesHeld (now (records .entry)) count) a ⌝ }
 {
@@ -162,6 +176,57 @@ pub fn kind_at(records: &[[u16; 4]], count: usize, a: u64) -> Kind
     let at = a as usize;
     let record = records[at];
     kind_of(word_from(record[0]))
+}
+
+// Whether record a holds a bare constant.
+pub fn is_constant(records: &[Record], a: usize) -> bool
+    requires { ⌜ a < length (now records) ⌝ }
+    ensures { λ r. ⌜ r ≡ isConstant (kindAt (linesOf (now (records .entry))) a) ⌝ }
+{
+    let record = records[a];
+    match kind_of(word_from(record[0])) {
+        Kind::Ciphertext => false,
+        Kind::Constant => true,
+        Kind::Encoded => false,
+        Kind::Nothing => false,
+    }
+}
+
+// Whether erasing strikes the line that record i holds.
+pub fn struck_at(records: &[Record], i: usize) -> bool
+    requires { ⌜ i < length (now records) ⌝ }
+    ensures { λ r. ⌜ r ≡ isStruck (getD (linesOf (now (records .entry))) i Free) ⌝ }
+{
+    let record = records[i];
+    is_struck(word_from(record[0]))
+}
+
+// ---- comparing
+// Whether two records hold the same line, where each is the record of its line.
+fn same_record(r: Record, s: Record) -> bool
+    requires { ⌜ recordOf (lineOf r) ≡ r ⌝ }
+    requires { ⌜ recordOf (lineOf s) ≡ s ⌝ }
+    ensures { λ b. ⌜ b ≡ sameLine (lineOf r) (lineOf s) ⌝ }
+{
+    if r[0] != s[0] {
+        return false;
+    }
+    if r[1] != s[1] {
+        return false;
+    }
+    if r[2] != s[2] {
+        return false;
+    }
+    r[3] == s[3]
+}
+
+// Whether two lines are the same: their records are.
+pub fn same_line(x: Line, y: Line) -> bool
+    requires { ⌜ levelOf x ≤ 65535 ⌝ }
+    requires { ⌜ levelOf y ≤ 65535 ⌝ }
+    ensures { λ b. ⌜ b ≡ sameLine x y ⌝ }
+{
+    same_record(record_of(x), record_of(y))
 }
 
 // ---- operands
@@ -177,11 +242,7 @@ pub fn first_operand(line: Line) -> u16
         Line::Add(a, _) => a,
         Line::Mul(a, _) => a,
         Line::Out(a) => a,
-        Line::Enc {
-            of,
-            scale: _,
-            level: _,
-        } => of,
+        Line::Enc { of, .. } => of,
         Line::Rs(a, _) => a,
         Line::Ms(a, _) => a,
         Line::Us(a, _) => a,
@@ -201,11 +262,7 @@ pub fn second_operand(line: Line) -> u16
         Line::Add(_, b) => b,
         Line::Mul(_, b) => b,
         Line::Out(_) => 0,
-        Line::Enc {
-            of: _,
-            scale: _,
-            level: _,
-        } => 0,
+        Line::Enc { .. } => 0,
         Line::Rs(_, _) => 0,
         Line::Ms(_, _) => 0,
         Line::Us(_, _) => 0,
@@ -225,11 +282,7 @@ pub fn with_operands(line: Line, first: u16, second: u16) -> Line
         Line::Add(_, _) => Line::Add(first, second),
         Line::Mul(_, _) => Line::Mul(first, second),
         Line::Out(_) => Line::Out(first),
-        Line::Enc {
-            of: _,
-            scale,
-            level,
-        } => Line::Enc {
+        Line::Enc { scale, level, .. } => Line::Enc {
             of: first,
             scale: scale,
             level: level,

@@ -15,7 +15,8 @@ use Rattle.model.specs.declared.Line.{Line}
 use Rattle.model.specs.declared.Line.the-variants.{In, Const, Neg, Rot, Add, Mul, Out, Enc, Rs, Ms, Us, Free}
 use Rattle.model.specs.declared.Word as Words
 use Rattle.model.specs.declared.Word.{Word}
-use Rattle.model.specs.Words.{entry, words, hasWord, sameWord}
+use Rattle.model.specs.Words.{entry, words, hasWord}
+use Rattle.model.specs.Numbering.{sameWord}
 use Rattle.model.specs.Files.{said, lineOf, rowOf}
 use Rattle.rows.specs.Forms.{saying}
 use Rattle.model.proofs.EveryWord.{every, every-word, same-word}

@@ -19,7 +19,8 @@ use Rattle.model.specs.declared.Grammar.{Grammar}
 use Rattle.model.specs.declared.Grammar.the-variants.{Circuit, Schedule}
 use Rattle.model.specs.declared.Word.{Word}
 use Rattle.model.specs.declared.Word.the-variants.{In, Const, Neg, Rot, Add, Mul, Out, Enc, Rs, Ms, Us, NoWord}
-use Rattle.model.specs.Words.{entry, words, order, sameWord, hasWord}
+use Rattle.model.specs.Words.{entry, words, hasWord}
+use Rattle.model.specs.Numbering.{order, sameWord}
 use Rattle.model.proofs.Tests.{and-first, and-second, and-both}
 use Rattle.model.proofs.EveryWord.{every, every-word, same-word}
 use Rattle.text.specs.Files.{vocabulary}
@@ -27,7 +28,8 @@ use Rattle.text.proofs.WordLaws.{word-of, named-word}
 use Rattle.forms.specs.Along.{fieldIn, endsField}
 use Rattle.forms.proofs.WordLaws.{field-short}
 use Rattle.tables.specs.Records.{wordNumber}
-use Rattle.words.specs.Words.{orNoWord, wordIn, firstByte, candidateBy, candidateOf, isNamed, signedField}
+use Rattle.tables.proofs.Words.{every-same}
+use Rattle.words.specs.Words.{orNoWord, wordIn, firstByte, candidateBy, candidateOf, isNamed}
 
 -- ---- the only word that can stand at a place, by the first two bytes there
 module _ (s : Bytes) (at : ℕ) where
@@ -157,18 +159,6 @@ pub field-named : (g : Grammar) (t : Bytes) (w : Word) → w ≡ wordIn t → T 
 field-named g t w is has = sym (named-is vocabulary words (fieldIn t) (word-named g t w is has))
 
 -- ---- what a word's number tells: one test over the table each
-same-bool : (a b : Bool) → T (cond a b (not b)) → a ≡ b
-same-bool true true t = refl
-same-bool true false t = absurd t
-same-bool false true t = absurd t
-same-bool false false t = refl
-
-abbrev agrees : (Word → Bool) → (Word → Bool) → Word → Bool
-agrees p q w = cond (p w) (q w) (not (q w))
-
-every-same : (p q : Word → Bool) → T (every (agrees p q)) → (w : Word) → p w ≡ q w
-every-same p q t w = same-bool (p w) (q w) (every-word (agrees p q) t w)
-
 module _ (w : Word) (n : ℕ) (q : n ≡ wordNumber w) where
   pub amount-by : eqb n 4 ≡ sameWord w Rot
   amount-by = ap (λ (m : ℕ). eqb m 4) q ∙ every-same (λ v. eqb (wordNumber v) 4) (λ v. sameWord v Rot) tt w
@@ -188,11 +178,4 @@ module _ (w : Word) (n : ℕ) (q : n ≡ wordNumber w) where
 pub circuit-kept : (g : Grammar) (w : Word) (r : Bool) → g ≡ Circuit → r ≡ hasWord Circuit w → r ≡ hasWord g w
 circuit-kept g w r e q = rw e q
 
-module _ (w : Word) (t : Bool) (q : t ≡ sameWord w Rot) where
-  pub signed-rot : t ≡ true → 1 ≡ signedField w
-  signed-rot h = rw (← q, h)
-
-  pub signed-none : t ≡ false → 3 ≡ signedField w
-  signed-none h = rw (← q, h)
-
-pub ruleset word-laws = (needs, is-word, no-word, amount-by, kept-none, kept-few, schedule-some, circuit-kept, signed-rot, signed-none)
+pub ruleset word-laws = (needs, is-word, no-word, amount-by, kept-none, kept-few, schedule-some, circuit-kept)

@@ -9,7 +9,7 @@ use Rattle.rows.specs.Forms.{named}
 use Rattle.model.specs.declared.Grammar.the-variants.{Schedule}
 use Rattle.model.specs.declared.Word.{Word}
 use Rattle.model.specs.declared.Word.the-variants.{In, Const, Neg, Rot, Add, Mul, Out, Enc, Rs, Ms, Us, NoWord}
-use Rattle.model.specs.Words.{entry, words, sameWord, hasWord}
+use Rattle.model.specs.Words.{entry, words, hasWord}
 use Rattle.text.specs.Files.{vocabulary}
 use Rattle.forms.specs.Along.{fieldIn}
 
@@ -44,7 +44,3 @@ candidateOf t = cond (ltb (length t) 2) NoWord (candidateBy (getD t 0 0) (eqb (g
 -- whether this word is a text's first field
 unfoldable pub isNamed : Word → Bytes → Bool
 isNamed w t = hasWord Schedule w && sameBytes (fieldIn t) (entry w .bytes)
-
--- which of a word's fields has a sign; no word has a fourth
-abbrev pub signedField : Word → ℕ
-signedField w = cond (sameWord w Rot) 1 3

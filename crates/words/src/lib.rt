@@ -6,8 +6,9 @@ ghost use Prim.Native.Nat.{_+_, _≤_};
 ghost use lib.ListN.{length, drop};
 ghost use Rattle.model.specs.declared.Grammar.the-variants.{Circuit};
 ghost use Rattle.model.specs.declared.Word.the-variants.{Rot};
-ghost use Rattle.model.specs.Words.{entry, sameWord, hasWord};
-ghost use Rattle.words.specs.Words.{wordIn, candidateOf, isNamed, signedField};
+ghost use Rattle.model.specs.Words.{entry, hasWord};
+ghost use Rattle.model.specs.Numbering.{sameWord};
+ghost use Rattle.words.specs.Words.{wordIn, candidateOf, isNamed};
 
 // A line's first field: which word it is, and the place past it.
 pub struct WordAt {
@@ -123,16 +124,6 @@ pub fn takes_amount(word: Word) -> bool
     ensures { λ r. ⌜ r ≡ sameWord word Rot ⌝ }
 {
     tables::number_of(word) == 4
-}
-
-// Which of the fields has a sign: a rotation's second; no word has a fourth.
-pub fn signed_of(word: Word) -> usize
-    ensures { λ r. ⌜ r ≡ signedField word ⌝ }
-{
-    if takes_amount(word) {
-        return 1;
-    }
-    3
 }
 
 // Whether a circuit has the word, and erasing keeps it: the first seven in the records' numbering.

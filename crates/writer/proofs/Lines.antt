@@ -17,8 +17,9 @@ use Rattle.rows.specs.Rows as Rows
 use Rattle.text.specs.Files.{headerForm, lineForm, fileText}
 use Rattle.text.specs.Tables.{fileOf}
 use Rattle.tables.specs.Records.{lineOf, linesOf, held}
-use Rattle.writer.specs.Put.{Put, Written, Counted}
-use Rattle.writer.proofs.Puts.{put-both, put-nothing}
+use Rattle.spelling.specs.Put.{Put, Counted}
+use Rattle.writer.specs.Writing.{Written}
+use Rattle.spelling.proofs.Puts.{put-both, put-nothing}
 
 -- ---- the first i lines of the records
 abbrev lineAt : List (List ℕ) → ℕ → Line

@@ -1,2 +1,2 @@
 -- What writing a file comes to.
-pub mod Put
+pub mod Writing

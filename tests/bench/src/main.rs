@@ -1,4 +1,4 @@
-//! The services of the archive against the Rust version: the same inputs, the same run, both built for release.
+//! The services of the archive against the Rust version and the yardstick in C: the same inputs, the same run, all built for release.
 //!
 //! `bench` measures and prints a table; `bench --svg FILE` draws the growth with the number of lines too; `bench --smoke` only makes each
 //! call a few times and compares the replies. No time is asserted.
@@ -7,21 +7,27 @@ mod inputs;
 mod plot;
 
 use inputs::Input;
-use reference::archive::{self, Lent, Service};
+use reference::library::{self, Lent, Library, Service};
 use reference::services::{self, Reply};
 use std::hint::black_box;
 use std::path::Path;
 use std::time::Instant;
 
 const ROOM: usize = 131_072;
+/// There are at least so many calls, so that no run passes on missing inputs.
+const LEAST_CALLS: usize = 60;
+/// A measurement is the shortest of so many runs, each of about so many nanoseconds: a short run is seldom disturbed.
+const RUNS: usize = 150;
+const RUN_TIME: f64 = 150_000.0;
 
-/// One measured call: time in nanoseconds of the archive and of the Rust version.
+/// One measured call: time in nanoseconds of the archive, of the Rust version and of the yardstick.
 pub struct Row {
     pub service: &'static str,
     pub input: String,
     pub lines: usize,
     pub archive: f64,
     pub rust: f64,
+    pub yardstick: f64,
 }
 
 struct Call {
@@ -53,21 +59,28 @@ fn time_of(calls: usize, mut call: impl FnMut() -> Reply) -> f64 {
     start.elapsed().as_nanos() as f64 / calls as f64
 }
 
-/// The shortest of several runs, of both in turn: other work on the machine only adds, and it meets both alike.
-fn measure(call: &Call, input: &str, lines: usize, runs: usize, calls: usize) -> Row {
+/// The shortest of several runs, of all in turn: other work on the machine only adds, and it meets all alike.
+fn measure(call: &Call, input: &str, lines: usize, runs: usize) -> Row {
     let mut first = Lent::new(&[], &call.first, &[], false);
     let mut second = Lent::new(&[], &call.second, &[], false);
     let mut lent = Lent::new(&[], &vec![0; ROOM], &[], false);
     let mut out = vec![0; ROOM];
-    let replied = archive::call(call.service, &mut first, &mut second, &mut lent);
-    assert_eq!(replied, by_rust(call, &mut out), "{} of {input}", call.name);
-    assert!(lent.bytes() == &out[..], "the bytes of {} of {input}", call.name);
-    let (mut archive, mut rust) = (f64::MAX, f64::MAX);
+    let expected = by_rust(call, &mut out);
+    for library in [Library::Archive, Library::Yardstick] {
+        lent.bytes_mut().fill(0);
+        let replied = library::call(library, call.service, &mut first, &mut second, &mut lent);
+        assert_eq!(replied, expected, "{library:?}: {} of {input}", call.name);
+        assert!(lent.bytes() == &out[..], "{library:?}: the bytes of {} of {input}", call.name);
+    }
+    let calls = (RUN_TIME / time_of(3, || by_rust(call, &mut out))).clamp(1.0, 1000.0) as usize;
+    let (mut archive, mut rust, mut yardstick) = (f64::MAX, f64::MAX, f64::MAX);
     for _ in 0..runs {
-        archive = archive.min(time_of(calls, || archive::call(call.service, &mut first, &mut second, &mut lent)));
+        let mut of_library = |library| time_of(calls, || library::call(library, call.service, &mut first, &mut second, &mut lent));
+        archive = archive.min(of_library(Library::Archive));
+        yardstick = yardstick.min(of_library(Library::Yardstick));
         rust = rust.min(time_of(calls, || by_rust(call, &mut out)));
     }
-    Row { service: call.name, input: input.to_string(), lines, archive, rust }
+    Row { service: call.name, input: input.to_string(), lines, archive, rust, yardstick }
 }
 
 fn calls_of(input: &Input) -> Vec<(Call, usize)> {
@@ -115,23 +128,27 @@ fn refused_files() -> Vec<Input> {
     vec![refused("a damaged last line", damaged), refused("too few levels", few.into_bytes()), refused("an empty file", Vec::new())]
 }
 
-fn rows(folder: &Path, runs: usize, calls: usize) -> Vec<Row> {
+fn rows(folder: &Path, runs: usize) -> Vec<Row> {
     let mut rows = Vec::new();
     for input in inputs::examples(folder).into_iter().chain(full_files()).chain(refused_files()) {
         for (call, lines) in calls_of(&input) {
-            rows.push(measure(&call, &input.name, lines, runs, calls));
+            rows.push(measure(&call, &input.name, lines, runs));
         }
     }
+    assert!(rows.len() >= LEAST_CALLS, "only {} calls", rows.len());
     rows
 }
 
 fn print_table(rows: &[Row]) {
-    println!("| service | input | lines | archive, µs | Rust, µs | ratio | archive, ns a line |");
-    println!("|---|---|---|---|---|---|---|");
+    println!("| service | input | lines | archive, µs | Rust, µs | C, µs | to Rust | to C | archive, ns a line |");
+    println!("|---|---|---|---|---|---|---|---|---|");
     for row in rows {
-        let a_line = row.archive / row.lines.max(1) as f64;
-        let (archive, rust) = (row.archive / 1000.0, row.rust / 1000.0);
-        println!("| {} | {} | {} | {archive:.2} | {rust:.2} | {:.2} | {a_line:.0} |", row.service, row.input, row.lines, archive / rust);
+        let Row { service, input, lines, .. } = row;
+        let (archive, rust, yardstick) = (row.archive / 1000.0, row.rust / 1000.0, row.yardstick / 1000.0);
+        let (to_rust, to_c, a_line) = (archive / rust, archive / yardstick, row.archive / row.lines.max(1) as f64);
+        println!(
+            "| {service} | {input} | {lines} | {archive:.2} | {rust:.2} | {yardstick:.2} | {to_rust:.2} | {to_c:.2} | {a_line:.0} |"
+        );
     }
 }
 
@@ -139,10 +156,10 @@ fn main() {
     let words: Vec<String> = std::env::args().skip(1).collect();
     let folder = Path::new(env!("CARGO_MANIFEST_DIR")).join("../../examples");
     if words.iter().any(|word| word == "--smoke") {
-        println!("bench: {} calls, all replies the same", rows(&folder, 1, 3).len());
+        println!("bench: {} calls, all replies the same", rows(&folder, 1).len());
         return;
     }
-    let rows = rows(&folder, 40, 100);
+    let rows = rows(&folder, RUNS);
     print_table(&rows);
     if let [option, file] = &words[..] {
         assert_eq!(option, "--svg", "bench [--smoke | --svg FILE]");

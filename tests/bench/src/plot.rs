@@ -1,4 +1,4 @@
-//! The growth of each service's time with the number of lines, as an SVG: the archive and the Rust version.
+//! The growth of each service's time with the number of lines, as an SVG: the archive, the Rust version and the yardstick in C.
 
 use crate::Row;
 
@@ -55,6 +55,10 @@ fn axes(scale: &Scale) -> String {
     text + &format!("<text x=\"20\" y=\"{:.0}\">µs</text>\n", BOTTOM - HEIGHT - 14.0)
 }
 
+fn dashed(colour: &str, dashes: &str, path: &str) -> String {
+    format!("<path d=\"{path}\" stroke=\"{colour}\" stroke-width=\"1.5\" stroke-dasharray=\"{dashes}\" fill=\"none\"/>\n")
+}
+
 pub fn growth(rows: &[Row]) -> String {
     let full: Vec<&Row> = rows.iter().filter(|row| is_measured(row)).collect();
     let scale = Scale {
@@ -68,8 +72,12 @@ pub fn growth(rows: &[Row]) -> String {
     for (i, (service, colour)) in SERVICES.iter().enumerate() {
         let points = points(rows, service);
         text += &format!("<path d=\"{}\" stroke=\"{colour}\" stroke-width=\"2\" fill=\"none\"/>\n", path(&points, &scale, |row| row.archive));
-        text += &format!("<path d=\"{}\" stroke=\"{colour}\" stroke-width=\"1.5\" stroke-dasharray=\"5 4\" fill=\"none\"/>\n", path(&points, &scale, |row| row.rust));
+        text += &dashed(colour, "5 4", &path(&points, &scale, |row| row.rust));
+        text += &dashed(colour, "1 4", &path(&points, &scale, |row| row.yardstick));
         text += &format!("<text x=\"650\" y=\"{}\" fill=\"{colour}\">{service}</text>\n", 90 + 22 * i);
     }
-    text + "<text x=\"650\" y=\"190\">solid: archive</text>\n<text x=\"650\" y=\"210\">dashed: Rust</text>\n</svg>\n"
+    for (i, line) in ["solid: archive", "dashed: Rust", "dotted: C"].iter().enumerate() {
+        text += &format!("<text x=\"650\" y=\"{}\">{line}</text>\n", 190 + 20 * i);
+    }
+    text + "</svg>\n"
 }

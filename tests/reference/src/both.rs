@@ -1,6 +1,8 @@
-//! One call on both sides: reply, every byte of the lent buffer, guard bytes and inputs are compared.
+//! One call on every side: the archive and the yardstick are held to the reference in reply, every byte of the lent buffer, guard bytes
+//! and inputs.
 
-use crate::archive::{self, Lent, Service};
+use crate::coverage::Coverage;
+use crate::library::{self, Lent, Library, Service};
 use crate::random::Random;
 use crate::services::{self, Reply};
 
@@ -22,7 +24,7 @@ pub struct Call<'a> {
     pub room: usize,
 }
 
-/// What both sides agreed on.
+/// What all sides agreed on.
 pub struct Outcome {
     pub reply: Reply,
     /// The bytes written: empty unless plan or erase succeeded.
@@ -33,16 +35,45 @@ pub struct Both {
     random: Random,
     show: bool,
     pub calls: u64,
-    /// How often each number was replied.
-    pub numbers: [u64; 14],
-    /// Exhaustive searches that came to an answer, and those that gave up.
-    pub searches: [u64; 2],
+    pub coverage: Coverage,
+    pub searches: Searches,
+    pub runs: Runs,
+}
+
+/// Exhaustive searches, by what they came to.
+#[derive(Clone, Copy, Default)]
+pub struct Searches {
+    pub exists: u64,
+    pub none: u64,
+    pub gave_up: u64,
+}
+
+impl Searches {
+    pub fn add(&mut self, other: &Searches) {
+        self.exists += other.exists;
+        self.none += other.none;
+        self.gave_up += other.gave_up;
+    }
+}
+
+/// Runs of the scale machine, by how they ended.
+#[derive(Clone, Copy, Default)]
+pub struct Runs {
+    pub to_the_end: u64,
+    pub stopped: u64,
+}
+
+impl Runs {
+    pub fn add(&mut self, other: &Runs) {
+        self.to_the_end += other.to_the_end;
+        self.stopped += other.stopped;
+    }
 }
 
 impl Both {
-    /// `show` prints every call and both replies.
+    /// `show` prints every call and the replies.
     pub fn new(random: Random, show: bool) -> Both {
-        Both { random, show, calls: 0, numbers: [0; 14], searches: [0; 2] }
+        Both { random, show, calls: 0, coverage: Coverage::default(), searches: Searches::default(), runs: Runs::default() }
     }
 
     pub fn plan(&mut self, circuit: &[u8], room: usize) -> Result<Outcome, String> {
@@ -65,31 +96,21 @@ impl Both {
         let inputs = [self.lend_input(call.first), self.lend_input(call.second)];
         let buffer = self.lend_buffer(call.room);
         let mut expected = buffer.clone();
-        let ours = reference_call(call, expected.bytes_mut());
-        let [mut first, mut second] = inputs.clone();
-        let mut out = buffer;
-        let theirs = archive::call(call.service, &mut first, &mut second, &mut out);
-        self.calls += 1;
-        self.numbers[ours.number as usize] += 1;
-        if self.show {
-            println!("{}", described(call, ours, theirs));
-        }
-        let fault = if ours != theirs {
-            Some("the replies differ".to_string())
-        } else if let Some(at) = first_difference(out.framed(), expected.framed()) {
-            Some(buffer_fault(at, &out, &expected))
-        } else if [first, second] != inputs {
-            Some("an input or a guard byte beside it was changed".to_string())
-        } else {
-            None
-        };
-        match fault {
-            Some(fault) => Err(format!("{fault}\n{}", described(call, ours, theirs))),
-            None => {
-                let length = if call.room == 0 { 0 } else { ours.length as usize };
-                Ok(Outcome { reply: ours, written: out.bytes()[..length].to_vec() })
+        let reply = reference_call(call, expected.bytes_mut());
+        for library in [Library::Archive, Library::Yardstick] {
+            let (theirs, fault) = called(library, call, &inputs, &buffer, (reply, &expected));
+            if self.show {
+                println!("{}", described(library, call, reply, theirs));
+            }
+            if let Some(fault) = fault {
+                return Err(format!("{fault}\n{}", described(library, call, reply, theirs)));
             }
         }
+        let length = if call.room == 0 { 0 } else { reply.length as usize };
+        let written = expected.bytes()[..length].to_vec();
+        self.calls += 1;
+        self.coverage.count_call(&call, reply, &written);
+        Ok(Outcome { reply, written })
     }
 
     fn lend_input(&mut self, bytes: &[u8]) -> Lent {
@@ -107,8 +128,11 @@ impl Both {
     }
 
     fn noise(&mut self, length: usize) -> Vec<u8> {
-        let words = (0..length.div_ceil(8)).flat_map(|_| self.random.word().to_le_bytes());
-        words.take(length).collect()
+        let mut bytes = vec![0; length];
+        for chunk in bytes.chunks_mut(8) {
+            chunk.copy_from_slice(&self.random.word().to_le_bytes()[..chunk.len()]);
+        }
+        bytes
     }
 }
 
@@ -119,6 +143,29 @@ fn reference_call(call: Call, out: &mut [u8]) -> Reply {
         Service::Erase => services::erase(call.first, out),
         Service::LeastLevel => services::least_level(call.first),
     }
+}
+
+/// A call of one library, and how it differs from the reply and the buffer expected.
+fn called(
+    library: Library,
+    call: Call,
+    inputs: &[Lent; 2],
+    buffer: &Lent,
+    expected: (Reply, &Lent),
+) -> (Reply, Option<String>) {
+    let [mut first, mut second] = inputs.clone();
+    let mut out = buffer.clone();
+    let reply = library::call(library, call.service, &mut first, &mut second, &mut out);
+    let fault = if reply != expected.0 {
+        Some("the replies differ".to_string())
+    } else if let Some(at) = first_difference(out.framed(), expected.1.framed()) {
+        Some(buffer_fault(at, &out, expected.1))
+    } else if [first, second] != *inputs {
+        Some("an input or a guard byte beside it was changed".to_string())
+    } else {
+        None
+    };
+    (reply, fault)
 }
 
 fn first_difference(one: &[u8], other: &[u8]) -> Option<usize> {
@@ -136,16 +183,17 @@ fn buffer_fault(at: usize, out: &Lent, expected: &Lent) -> String {
     let (theirs, ours) = (around(out.framed()), around(expected.framed()));
     format!(
         "the lent buffer differs at byte {place} (guard bytes stand before 0 and from {room} on); around it\n  \
-         archive:   {theirs}\n  reference: {ours}"
+         library:   {theirs}\n  reference: {ours}"
     )
 }
 
-fn described(call: Call, ours: Reply, theirs: Reply) -> String {
-    let mut text = format!("  service: {:?}, room {}\n  first:  {}", call.service, call.room, call.first.escape_ascii());
+fn described(library: Library, call: Call, ours: Reply, theirs: Reply) -> String {
+    let mut text =
+        format!("  {library:?}, service: {:?}, room {}\n  first:  {}", call.service, call.room, call.first.escape_ascii());
     if call.service == Service::Check {
         text += &format!("\n  second: {}", call.second.escape_ascii());
     }
-    text + &format!("\n  archive:   {}\n  reference: {}", shown(theirs), shown(ours))
+    text + &format!("\n  library:   {}\n  reference: {}", shown(theirs), shown(ours))
 }
 
 fn shown(reply: Reply) -> String {

@@ -1,15 +1,17 @@
 //! A second version of the scale planner for RNS-CKKS circuits, written from document 01 alone.
 //!
 //! The services stand in `services`; `text`, `plan`, `check` and `erase` are their parts. `machines` and `search` test what
-//! document 01 says of every schedule. The other modules make cases and compare both versions.
+//! document 01 says of every schedule. The other modules make cases and compare the archive and the yardstick with this version;
+//! `coverage` counts what was tried.
 
-pub mod archive;
 pub mod big;
 pub mod both;
 pub mod cases;
 pub mod check;
+pub mod coverage;
 pub mod erase;
 pub mod kinds;
+pub mod library;
 pub mod machines;
 pub mod plan;
 pub mod random;

@@ -7,14 +7,9 @@ pub verdict-spec : {M : Type 1} → statement M
 verdict-spec =
     tie.close
     (tie.spec
-    (λ c. search steps)
     (λ c κs. search steps)
     (λ c. search steps)
-    (λ c κs. (search steps, (search steps, (search steps, search steps))))
-    (λ c. search steps)
     (λ c κs. search steps)
-    (λ c. search steps)
-    (λ c. search steps)
     (λ c. search steps)
     (λ c. search steps)
     (λ c. search steps))

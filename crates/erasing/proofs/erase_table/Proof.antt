@@ -1,7 +1,6 @@
--- `erasing::erase_table` meets its contract. The loop's invariant is `Filling`; the measure is what is left of the schedule. Assumes nothing.
+-- `erasing::erase_table` meets its contract: the loop's invariant is `Filling`; the measure is what is left of the schedule. Assumes nothing.
 use Prim.Native.Nat.{_-_}
 use mathlib.Core.Logic.{⊎-elim}
-use borrow.Author.Needs.{needs}
 use Rattle.erasing.proofs.Filling.{Filling, after-kept, after-struck, filling-laws}
 use Rattle.erasing.proofs.erase_table.Statement.{statement}
 use Rattle.erasing.proofs.erase_table.Tie as tie
@@ -20,26 +19,24 @@ erase-table-spec =
     μ-loop
     (λ c. search filling-laws)
     (λ c κs. search filling-laws)
-    (λ c. search needs)
-    (λ c κs. search needs)
-    (λ c. search needs)
-    (λ c. search needs)
     (λ c. search filling-laws)
-    (λ c κs. search needs)
     (λ c κs. search filling-laws)
-    (λ c. search needs)
-    (λ c. search needs)
-    (λ c. search needs)
-    (λ c. search needs)
-    (λ c. search needs)
-    (λ c. search needs)
-    (λ c. search needs)
     (λ c. search filling-laws)
-    (λ c κs. search needs)
-    (λ c. search needs)
-    (λ c. search needs)
-    (λ c. search needs)
-    (λ c. search needs)
-    (λ c. ⊎-elim (λ w. search after-kept) (λ w. search after-struck) (c .match .came))
+    (λ c. search filling-laws)
+    (λ c κs. search filling-laws)
+    (λ c. search filling-laws)
+    (λ c. search filling-laws)
+    (λ c. search filling-laws)
+    (λ c. search filling-laws)
+    (λ c κs. search filling-laws)
+    (λ c κs. search filling-laws)
+    (λ c. search filling-laws)
+    (λ c. search filling-laws)
+    (λ c. search filling-laws)
+    (λ c. search filling-laws)
+    (λ c. search filling-laws)
+    (λ c. search filling-laws)
+    (λ c. search filling-laws)
+    (λ c. ⊎-elim (λ w. search after-struck) (λ w. search after-kept) (c .if1 .came))
     (λ c. search filling-laws)
     (λ c. (search filling-laws, search filling-laws)))

@@ -1,5 +1,5 @@
 -- `erasing::same_header` meets its contract: one law for each return, its premises the tests on the way. Assumes nothing.
-use Rattle.erasing.proofs.Sameness.{header-laws}
+use Rattle.erasing.proofs.Headers.{header-laws}
 use Rattle.erasing.proofs.same_header.Statement.{statement}
 use Rattle.erasing.proofs.same_header.Tie as tie
 

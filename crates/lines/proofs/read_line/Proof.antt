@@ -21,8 +21,8 @@ read-line-spec =
     let g = c .before .first .given in
     let inside =
     past-within (a .word) (a .count) (a .start) (a .text .now) (c .before .before .before .before .before .fields-of .result)
-    (c .before .before .before .before .before .fields-of .ensures) (c .before .before .before .before .signed-of .result)
-    (c .before .before .before .before .signed-of .ensures)
+    (c .before .before .before .before .before .fields-of .ensures) (c .before .before .before .before .takes-amount .result)
+    (c .before .before .before .before .takes-amount .ensures)
     (c .before .before .before .numbers-at .result) (c .before .before .before .numbers-at .ensures) (g .0 .0) (g .0 .1 .0) (g .0 .1 .1 .0) (g .0 .1 .1 .1 .0) (g .1) in
     search line-laws)
     (λ c κs. let a = c .before .before .before .before .before .before .before .before .before .args in
@@ -35,8 +35,8 @@ read-line-spec =
           (
             search line-laws,
             numbers-read (a .word) (a .count) (a .start) (a .text .now) (c .before .before .before .before .before .fields-of .result)
-                (c .before .before .before .before .before .fields-of .ensures) (c .before .before .before .before .signed-of .result)
-                (c .before .before .before .before .signed-of .ensures)
+                (c .before .before .before .before .before .fields-of .ensures) (c .before .before .before .before .takes-amount .result)
+                (c .before .before .before .before .takes-amount .ensures)
                 (c .before .before .before .numbers-at .result) (c .before .before .before .numbers-at .ensures) (g .0 .0) (g .0 .1 .0) (g .0 .1 .1 .0) (g .0 .1 .1 .1 .0) (g .1),
           ),
         ),

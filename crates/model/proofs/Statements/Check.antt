@@ -13,7 +13,7 @@ use Rattle.model.specs.declared.Answer.the-variants.{Done, Level, Refuse
 use Rattle.rows.specs.Rows.{placeOf}
 use Rattle.model.specs.Files.{File, wellFormed}
 use Rattle.model.specs.Services.{erase, eraseFile}
-use Rattle.model.specs.Refused.{check, rulesAnswer}
+use Rattle.model.specs.Answers.{check, rulesAnswer}
 use Rattle.model.specs.Rules.{KeepsRules}
 
 -- Demand 2: "each of its lines keeps the published RNS-CKKS rules for scale, level and waterline, and striking out the encode, rescale,

@@ -9,7 +9,7 @@ use Rattle.model.specs.declared.Line.{Line}
 use Rattle.model.specs.declared.Grammar.the-variants.{Schedule}
 use Rattle.model.specs.declared.Answer.the-variants.{Refused}
 use Rattle.model.specs.Files.{wellFormed}
-use Rattle.model.specs.Refused.{rulesAnswer}
+use Rattle.model.specs.Answers.{rulesAnswer}
 use Rattle.model.specs.Broken.{FirstBroken}
 
 pub record IsFirstBroken (h : Header) (schedule : List Line) (n p : ℕ) : Type 0 where

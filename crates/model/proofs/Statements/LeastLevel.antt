@@ -10,7 +10,8 @@ use Rattle.model.specs.declared.Answer.the-variants.{Done, Level, Refuse
 use Rattle.model.specs.declared.Grammar.the-variants.{Circuit}
 use Rattle.model.specs.Scales.{withTop}
 use Rattle.model.specs.Files.{File, wellFormed}
-use Rattle.model.specs.Services.{unplanned, plan, leastLevel}
+use Rattle.model.specs.Services.{unplanned, plan}
+use Rattle.model.specs.Answers.{leastLevel}
 use Rattle.model.specs.Demands.{Schedulable}
 
 -- "it must fit, and the level below must not": l is from 1 to 60, the circuit has a schedule with l in both headers, and with no lower level.

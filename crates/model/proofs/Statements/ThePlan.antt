@@ -19,7 +19,7 @@ use Rattle.model.specs.declared.Best.{Best}
 use Rattle.model.specs.declared.Best.the-variants as Bests
 use Rattle.model.specs.Plan.{bestMachine}
 use Rattle.model.specs.Services.{scheduled, plan, keptLines}
-use Rattle.model.specs.Refused.{check}
+use Rattle.model.specs.Answers.{check}
 use Rattle.model.proofs.Statements.Check.{PassedFiles}
 
 -- the kept line of circuit line j has the best reserve of that line, at the level chosen for it

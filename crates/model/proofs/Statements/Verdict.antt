@@ -9,7 +9,7 @@ use Rattle.model.specs.declared.Grammar.the-variants.{Schedule}
 use Rattle.model.specs.declared.Answer.the-variants.{Done}
 use Rattle.model.specs.Files.{wellFormed}
 use Rattle.model.specs.Rules.{KeepsRules}
-use Rattle.model.specs.Refused.{rulesAnswer}
+use Rattle.model.specs.Answers.{rulesAnswer}
 
 abbrev pub Statement : Type 0
 Statement = (h : Header) (schedule : List Line) → T (wellFormed Schedule h schedule) → (rulesAnswer h schedule ≡ Done) ↔ KeepsRules h schedule

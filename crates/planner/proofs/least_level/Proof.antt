@@ -9,9 +9,11 @@ least-level-spec =
     (tie.spec
     (λ c. search steps)
     (λ c κs. search steps)
+    (λ c. search steps)
     (λ c κs. search steps)
     (λ c. search steps)
     (λ c. search steps)
     (λ c κs. search steps)
     (λ c κs. search steps)
+    (λ c. search steps)
     (λ c. search steps))

@@ -9,9 +9,8 @@ read-file-spec =
     (tie.spec
     (λ c κs. search file-laws)
     (λ c. search file-laws)
-    (λ c κs. search file-laws)
     (λ c. search file-laws)
     (λ c κs. search file-laws)
-    (λ c. (search file-laws, (search file-laws, search file-laws)))
     (λ c. search file-laws)
-    (λ c. (search file-laws, (search file-laws, search file-laws))))
+    (λ c. search file-laws)
+    (λ c. search file-laws))

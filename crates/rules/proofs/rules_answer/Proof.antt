@@ -1,14 +1,14 @@
--- `rules::rules_answer` meets its contract. The loop's invariant is `Checking`; the measure is how many lines are left. Assumes nothing.
+-- `rules::rules_answer` meets its contract: the loop's invariant is `Checking`; the measure is how many lines are left. Assumes nothing.
 use Prim.Native.Nat.{_-_}
-use Rattle.rules.proofs.Checking.{Checking, loop-laws}
+use Rattle.rules.proofs.Checking.{Checking, line-passes, loop-laws}
 use Rattle.rules.proofs.rules_answer.Statement.{statement}
 use Rattle.rules.proofs.rules_answer.Tie as tie
 
 abbrev Inv-loop : tie.InvT-loop
-Inv-loop header schedule count found₀ i₀ found i = Checking header schedule count found i
+Inv-loop header schedule count held₀ i₀ held i = Checking header schedule count held i
 
 abbrev μ-loop : tie.MeasureT-loop
-μ-loop header schedule count found₀ i₀ found i = count - i
+μ-loop header schedule count held₀ i₀ held i = count - i
 
 pub rules-answer-spec : {M : Type 1} → statement M
 rules-answer-spec =
@@ -18,17 +18,23 @@ rules-answer-spec =
     μ-loop
     (λ c. search loop-laws)
     (λ c κs. search loop-laws)
+    (λ c κs. search loop-laws)
+    (λ c. search loop-laws)
+    (λ c. search loop-laws)
     (λ c. search loop-laws)
     (λ c κs. search loop-laws)
     (λ c. search loop-laws)
     (λ c. search loop-laws)
     (λ c. search loop-laws)
-    (λ c. search loop-laws)
-    (λ c. search loop-laws)
-    (λ c κs. search loop-laws)
-    (λ c. search loop-laws)
+    (λ c κs. (search loop-laws, (search loop-laws, (search loop-laws, search loop-laws))))
     (λ c. search loop-laws)
     (λ c. search loop-laws)
     (λ c. search loop-laws)
     (λ c. search loop-laws)
+    (λ c. search loop-laws)
+    (λ c. search loop-laws)
+    (λ c. search loop-laws)
+    (λ c. search loop-laws)
+    (λ c. search loop-laws)
+    (λ c. search (line-passes _ _ _ _ _ (c .before .before .before .before .before .before .before .before .before .before .loop .inv)))
     (λ c. search loop-laws))

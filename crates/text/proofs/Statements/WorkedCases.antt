@@ -1,5 +1,5 @@
 -- Texts of a few lines and what they read to, the limits of numbers on both sides, and where a text has two faults the one that is told. The first two
--- are written byte by byte. The program `readings` tries more such texts on the code, all byte by byte.
+-- are written byte by byte. The program `storedtexts` tries more such texts on the code, all byte by byte.
 use Prim.Native.Nat.{ℕ}
 use mathlib.Core.Path.{_≡_}
 use mathlib.Core.List.{List, [], _∷_, _++_, map}

@@ -1,7 +1,7 @@
 -- `writer::fields_len` meets its contract: each word by its arm. Assumes nothing.
 use borrow.Author.Needs.{needs}
-use Rattle.writer.proofs.Fields.{line-fields}
-use Rattle.writer.proofs.Lengths.{lengths}
+use Rattle.writer.proofs.LineFields.{line-fields}
+use Rattle.spelling.proofs.Lengths.{lengths}
 use Rattle.writer.proofs.fields_len.Statement.{statement}
 use Rattle.writer.proofs.fields_len.Tie as tie
 

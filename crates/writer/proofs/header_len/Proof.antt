@@ -1,7 +1,7 @@
 -- `writer::header_len` meets its contract: the fields and a line feed. Assumes nothing.
 use borrow.Author.Needs.{needs}
-use Rattle.writer.proofs.Lengths.{lengths}
-use Rattle.writer.proofs.Fields.{line-texts}
+use Rattle.spelling.proofs.Lengths.{lengths}
+use Rattle.spelling.proofs.Fields.{line-texts}
 use Rattle.writer.proofs.header_len.Statement.{statement}
 use Rattle.writer.proofs.header_len.Tie as tie
 

@@ -1,7 +1,7 @@
 -- `writer::put_fields` meets its contract: each word by its arm. Assumes nothing.
 use borrow.Author.Needs.{needs}
-use Rattle.writer.proofs.Puts.{puts}
-use Rattle.writer.proofs.Fields.{line-fields}
+use Rattle.spelling.proofs.Puts.{puts}
+use Rattle.writer.proofs.LineFields.{line-fields}
 use Rattle.writer.proofs.put_fields.Statement.{statement}
 use Rattle.writer.proofs.put_fields.Tie as tie
 

@@ -1,6 +1,8 @@
-//! Compares the reference with the archive on seeded random cases. `--case K` runs one case again and shows it.
+//! Compares the archive and the yardstick with the reference on seeded random cases, and fails where too little was tried. `--case K` runs one
+//! case again and shows it.
 
-use reference::both::Both;
+use reference::both::{Both, Runs, Searches};
+use reference::coverage::{Asked, Coverage};
 use reference::kinds::{run, Kind, KINDS};
 use reference::random::Random;
 use std::process::ExitCode;
@@ -16,6 +18,27 @@ const BLOCK: u64 = 100;
 /// No more than one search in so many may give up.
 const MOST_GIVEN_UP: u64 = 20;
 const PROGRESS: Duration = Duration::from_secs(5);
+/// What a run must have tried, whatever its number of cases.
+const ASKED: Asked = Asked { replies: 200, conversions: 5000, limits: 20, buffers: 5000, only_plan: false };
+/// What each kind of case must have been replied: numbers, and how often at least.
+fn asked_of(kind: Kind) -> (&'static [usize], u64) {
+    match kind {
+        Kind::Circuit => (&[0, 6], 2000),
+        Kind::Schedule => (&[0, 3, 7, 8, 9, 10, 12], 200),
+        Kind::HandMade => (&[0, 9, 12], 500),
+        Kind::Spoiled => (&[0, 7, 8, 9, 10], 500),
+        Kind::Limit => (&[0, 1, 2, 3, 4, 5, 11, 12], 200),
+        Kind::DamagedCircuit => (&[0, 1, 2, 3, 4, 5, 6, 11, 12], 100),
+        Kind::DamagedSchedule => (&[0, 1, 2, 3, 4, 5, 9, 10, 11, 12], 100),
+        Kind::Buffer => (&[0, 13], 50_000),
+        Kind::Machines => (&[0, 7, 8, 9, 10], 100),
+        Kind::Search => (&[0, 6], 1000),
+        Kind::Soup => (&[0, 1, 4, 5, 11, 12], 1000),
+    }
+}
+
+/// The searches of each answer and the runs of each end.
+const ASKED_SHARP: u64 = 1000;
 
 struct Options {
     cases: u64,
@@ -38,25 +61,23 @@ fn options() -> Option<Options> {
     Some(options)
 }
 
-/// What is counted for a kind: cases, calls, how often each number was replied, and the searches that came to an answer and that gave up.
-#[derive(Clone, Copy, Default)]
+/// What is counted of cases.
+#[derive(Clone, Default)]
 struct Count {
     cases: u64,
     calls: u64,
-    numbers: [u64; 14],
-    searches: [u64; 2],
+    coverage: Coverage,
+    searches: Searches,
+    runs: Runs,
 }
 
 impl Count {
     fn add(&mut self, other: &Count) {
         self.cases += other.cases;
         self.calls += other.calls;
-        for (sum, number) in self.numbers.iter_mut().zip(other.numbers) {
-            *sum += number;
-        }
-        for (sum, searches) in self.searches.iter_mut().zip(other.searches) {
-            *sum += searches;
-        }
+        self.coverage.add(&other.coverage);
+        self.searches.add(&other.searches);
+        self.runs.add(&other.runs);
     }
 }
 
@@ -88,7 +109,7 @@ fn run_case(seed: u64, case: u64, show: bool) -> (Result<(), String>, Count) {
     // Guard bytes have a generator of their own: they do not move the case.
     let mut both = Both::new(Random::new(!seed, case), show);
     let result = run(case, &mut random, &mut both);
-    (result, Count { cases: 1, calls: both.calls, numbers: both.numbers, searches: both.searches })
+    (result, Count { cases: 1, calls: both.calls, coverage: both.coverage, searches: both.searches, runs: both.runs })
 }
 
 fn run_one(seed: u64, case: u64) -> ExitCode {
@@ -172,18 +193,34 @@ fn work(shared: &Shared) -> Counts {
     counts
 }
 
+/// Prints a kind's replies, and says whether each that is asked for came often enough.
+fn print_kind(kind: Kind, count: &Count) -> bool {
+    let (asked, least) = asked_of(kind);
+    let numbers = &count.coverage.numbers;
+    let is_short = |number: usize| asked.contains(&number) && numbers[number] < least;
+    let replied = (0..numbers.len()).filter(|&number| numbers[number] > 0 || is_short(number));
+    let replied: Vec<String> =
+        replied.map(|number| format!("{number}:{}{}", numbers[number], if is_short(number) { "!" } else { "" })).collect();
+    println!("{:<27} {:>7} cases {:>8} calls, replies {}", kind.name(), count.cases, count.calls, replied.join(" "));
+    !asked.iter().any(|&number| is_short(number))
+}
+
+/// Prints what was tried, and fails where it is too little.
 fn print_counts(counts: &Counts) -> ExitCode {
     let mut all = Count::default();
-    for (kind, count) in KINDS.iter().zip(counts) {
-        let replied = count.numbers.iter().enumerate().filter(|&(_, &times)| times > 0);
-        let replied: Vec<String> = replied.map(|(number, times)| format!("{number}:{times}")).collect();
-        println!("{:<27} {:>7} cases {:>8} calls, replies {}", kind.name(), count.cases, count.calls, replied.join(" "));
+    let mut enough = true;
+    for (&kind, count) in KINDS.iter().zip(counts) {
+        enough &= print_kind(kind, count);
         all.add(count);
     }
-    let [answered, given_up] = all.searches;
-    println!("exhaustive searches: {answered} came to an answer, {given_up} gave up");
-    if given_up * MOST_GIVEN_UP > answered + given_up {
-        println!("compare: too many searches gave up");
+    let Searches { exists, none, gave_up } = all.searches;
+    let Runs { to_the_end, stopped } = all.runs;
+    println!("exhaustive searches: {exists} found a schedule, {none} found that there is none, {gave_up} gave up");
+    println!("scale machine: {to_the_end} runs to the end, {stopped} stopped");
+    enough &= all.coverage.print(&ASKED);
+    let sharp = [exists, none, to_the_end, stopped].iter().all(|&count| count >= ASKED_SHARP);
+    if !enough || !sharp || gave_up * MOST_GIVEN_UP > exists + none + gave_up {
+        println!("compare: no difference, but too little was tried: see the counts marked !, the searches and the runs");
         return ExitCode::FAILURE;
     }
     println!("compare: {} cases, {} calls, no difference", all.cases, all.calls);

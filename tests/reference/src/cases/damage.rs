@@ -1,6 +1,7 @@
 //! Damaged texts of every kind.
 
 use crate::random::Random;
+use crate::text::{CIRCUIT_LINES, SCHEDULE_LINES};
 
 const WORDS: [&str; 17] =
     ["in", "const", "neg", "rot", "add", "mul", "out", "enc", "rs", "ms", "us", "circuit", "schedule", "IN", "inn", "i", ""];
@@ -97,16 +98,25 @@ fn damage_byte(random: &mut Random, mut text: Vec<u8>) -> Vec<u8> {
 
 /// Missing and surplus line feeds, carriage returns, cut files.
 fn damage_end(random: &mut Random, mut text: Vec<u8>) -> Vec<u8> {
-    match random.below(7) {
+    match random.below(8) {
         0 => drop(text.pop()),
         1 => text.push(b'\n'),
         2 => text.truncate(random.below(text.len() + 1)),
         3 => text.push(random.pick(&BYTES)),
         4 => text.extend_from_slice(random.pick(&WORDS).as_bytes()),
         5 => text = replaced(&text, b'\n', b"\r\n"),
+        6 => fill(random, &mut text),
         _ => text = replaced(&text, b'\t', random.pick(&[" ", "\t\t", ",", ""]).as_bytes()),
     }
     text
+}
+
+/// Lines up to the limit of the file, or one or two more.
+fn fill(random: &mut Random, text: &mut Vec<u8>) {
+    let limit = if text.starts_with(b"circuit") { CIRCUIT_LINES } else { SCHEDULE_LINES };
+    let lines = text.iter().filter(|&&byte| byte == b'\n').count();
+    let missing = (limit + 1 + random.below(3)).saturating_sub(lines);
+    text.extend_from_slice(&b"in\n".repeat(missing));
 }
 
 fn replaced(text: &[u8], byte: u8, by: &[u8]) -> Vec<u8> {
@@ -154,18 +164,34 @@ fn damage_field(random: &mut Random, text: &[u8]) -> Vec<u8> {
     };
     let mut fields: Vec<Vec<u8>> = content.split(|&byte| byte == b'\t').map(<[u8]>::to_vec).collect();
     let (field, other) = (random.below(fields.len()), random.below(fields.len()));
-    match random.below(9) {
+    match random.below(11) {
         0 => drop(fields.remove(field)),
         1 => fields.insert(field, fields[field].clone()),
         2 => fields.swap(field, other),
         3 | 4 => fields[field] = random.pick(&FIELDS).as_bytes().to_vec(),
         5 => fields[0] = random.pick(&WORDS).as_bytes().to_vec(),
         6 => fields[field].insert(0, random.pick(b"0-+ ")),
-        7 => fields.push(random.pick(&FIELDS).as_bytes().to_vec()),
+        7 | 8 => limit_field(random, &mut fields),
+        9 => fields.push(random.pick(&FIELDS).as_bytes().to_vec()),
         _ => fields[field] = moved_by_one(random, &fields[field]),
     }
     lines[at] = [fields.join(&b'\t'), end.to_vec()].concat();
     lines.concat()
+}
+
+/// The last number that is taken at some place of the line, or the first that is not.
+fn limit_field(random: &mut Random, fields: &mut [Vec<u8>]) {
+    let (place, numbers): (usize, &[&str]) = match &fields[0][..] {
+        b"circuit" | b"schedule" => (1 + random.below(3), &["0", "1", "60", "61"]),
+        b"const" => (1, &["65535", "65536"]),
+        b"rot" => (2, &["32767", "32768", "-32767", "-32768"]),
+        b"us" | b"enc" => (2, &["3600", "3601"]),
+        b"rs" | b"ms" => (2, &["60", "61"]),
+        _ => return,
+    };
+    if let Some(field) = fields.get_mut(place) {
+        *field = random.pick(numbers).as_bytes().to_vec();
+    }
 }
 
 /// A number one more or one less; another field stays.

@@ -76,11 +76,13 @@ pub fn machines(random: &mut Random, both: &mut Both) -> Result<(), String> {
     let otherwise = |what: String| with_files(&what, &texts[0], &texts[1]);
     match scale_machine(&schedule, &handed) {
         Ok(held) => {
+            both.runs.to_the_end += 1;
             let wrong = first_wrong_line(&schedule, &held, &plain_machine(&circuit, &handed));
             expect(checked.number == 0, || otherwise(format!("the scale machine runs all lines, check answers {checked:?}")))?;
             expect(wrong.is_none(), || otherwise(format!("circuit line {wrong:?} holds other numbers than the circuit's own")))
         }
         Err(stop) => {
+            both.runs.stopped += 1;
             let alike = [7, 8, 9, 10].contains(&checked.number) && checked.place as usize == stop.line + 2;
             expect(alike, || otherwise(format!("the scale machine stops ({stop:?}), check answers {checked:?}")))
         }

@@ -36,7 +36,11 @@ pub fn tiny(random: &mut Random, both: &mut Both) -> Result<(), String> {
 
 /// A search that gives up decides nothing: `compare` fails if there are many.
 fn counted(both: &mut Both, found: Answer) -> Answer {
-    both.searches[usize::from(found == Answer::GaveUp)] += 1;
+    match found {
+        Answer::Exists => both.searches.exists += 1,
+        Answer::NoneFrom(_) => both.searches.none += 1,
+        Answer::GaveUp => both.searches.gave_up += 1,
+    }
     found
 }
 

@@ -13,20 +13,19 @@ judge-spec =
     (λ c κs. search verdicts)
     (λ c. search verdicts)
     (λ c κs. search verdicts)
-    (λ c. search verdicts)
-    (λ c κs. search verdicts)
-    (λ c κs. search verdicts)
     (λ c κs. search verdicts)
     (λ c. search verdicts)
-    (λ c κs. search verdicts)
     (λ c. search verdicts)
-    (λ c κs. let a = c .before .before .before .before .before .before .before .before .before .args in
-    let f : Fitting (a .grammar) (a .header) (linesHeld (a .records .now) (a .count)) (a .word) (a .first) (a .second) (a .third) = search verdicts in
-    f .second)
-    (λ c. let a = c .before .before .before .before .before .before .before .before .before .before .args in
+    (λ c. search verdicts)
+    (λ c. let a = c .before .before .before .before .before .before .args in
     let f : Fitting (a .grammar) (a .header) (linesHeld (a .records .now) (a .count)) (a .word) (a .first) (a .second) (a .third) = search verdicts in
     (f .first-unsigned, f .first-fits))
-    (λ c. let a = c .before .before .before .before .before .before .before .before .before .before .args in
+    (λ c κs. let a = c .before .before .before .before .before .before .args in
+    let f : Fitting (a .grammar) (a .header) (linesHeld (a .records .now) (a .count)) (a .word) (a .first) (a .second) (a .third) = search verdicts in
+    f .second)
+    (λ c. let a = c .before .before .before .before .before .before .before .args in
     let f : Fitting (a .grammar) (a .header) (linesHeld (a .records .now) (a .count)) (a .word) (a .first) (a .second) (a .third) = search verdicts in
     (f .third-unsigned, f .third-fits))
+    (λ c. search verdicts)
+    (λ c. search verdicts)
     (λ c. search verdicts))

@@ -13,5 +13,4 @@ bounded-spec =
     (λ c. search bound-laws)
     (λ c. search bound-laws)
     (λ c. search bound-laws)
-    (λ c κs. search bound-laws)
     (λ c. search bound-laws))

@@ -1,4 +1,4 @@
--- `rules::rule_steps::moved` meets its contract: only a ciphertext is moved, to a scale and a level in reach. Assumes nothing.
+-- `rules::rule_steps::moved` meets its contract: the scale and the level come to what is in reach. Assumes nothing.
 use Rattle.rules.proofs.WordLaws.{word-laws}
 use Rattle.rules.proofs.rule_steps.moved.Statement.{statement}
 use Rattle.rules.proofs.rule_steps.moved.Tie as tie
@@ -9,11 +9,8 @@ moved-spec =
     (tie.spec
     (λ c. search word-laws)
     (λ c. search word-laws)
-    (λ c. search word-laws)
+    (λ c κs. search word-laws)
     (λ c. search word-laws)
     (λ c κs. search word-laws)
     (λ c κs. search word-laws)
-    (λ c κs. search word-laws)
-    (λ c. search word-laws)
-    (λ c. search word-laws)
     (λ c. search word-laws))

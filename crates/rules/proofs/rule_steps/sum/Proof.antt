@@ -4,4 +4,12 @@ use Rattle.rules.proofs.rule_steps.sum.Statement.{statement}
 use Rattle.rules.proofs.rule_steps.sum.Tie as tie
 
 pub sum-spec : {M : Type 1} → statement M
-sum-spec = tie.close (tie.spec (λ c. search word-laws) (λ c. search word-laws) (λ c κs. search word-laws) (λ c. search word-laws))
+sum-spec =
+    tie.close
+    (tie.spec
+    (λ c. search word-laws)
+    (λ c. search word-laws)
+    (λ c. search word-laws)
+    (λ c. search word-laws)
+    (λ c κs. search word-laws)
+    (λ c. search word-laws))

@@ -1,0 +1,2 @@
+-- What the code of this crate needs besides the model's definitions.
+pub mod Ranges

@@ -1,0 +1,3 @@
+-- What the code of this crate needs besides the model's definitions.
+pub mod Drafts
+pub mod Operands

@@ -1,4 +1,0 @@
-pub mod WorkLaws
-pub mod OperandLaws
-pub mod Reached
-pub mod Planning

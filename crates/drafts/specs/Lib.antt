@@ -1,2 +1,0 @@
-pub mod Works
-pub mod Operands

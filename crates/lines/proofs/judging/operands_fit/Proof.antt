@@ -1,0 +1,28 @@
+-- `lines::judging::operands_fit` meets its contract: what the word asks decides. Assumes nothing.
+use Rattle.lines.proofs.JudgeLaws.{asked-laws}
+use Rattle.lines.proofs.judging.operands_fit.Statement.{statement}
+use Rattle.lines.proofs.judging.operands_fit.Tie as tie
+
+pub operands-fit-spec : {M : Type 1} → statement M
+operands-fit-spec =
+    tie.close
+    (tie.spec
+    (λ c. search asked-laws)
+    (λ c. search asked-laws)
+    (λ c. search asked-laws)
+    (λ c κs. search asked-laws)
+    (λ c κs. search asked-laws)
+    (λ c. search asked-laws)
+    (λ c. search asked-laws)
+    (λ c κs. search asked-laws)
+    (λ c κs. search asked-laws)
+    (λ c. search asked-laws)
+    (λ c. search asked-laws)
+    (λ c κs. search asked-laws)
+    (λ c. search asked-laws)
+    (λ c κs. search asked-laws)
+    (λ c κs. search asked-laws)
+    (λ c. search asked-laws)
+    (λ c. search asked-laws)
+    (λ c. search asked-laws)
+    (λ c. search asked-laws))

@@ -1,0 +1,4 @@
+pub mod LineLaws
+pub mod WordLaws
+pub mod Alone
+pub mod Planning

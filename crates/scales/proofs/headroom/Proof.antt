@@ -1,0 +1,7 @@
+-- `scales::headroom` meets its contract: it is 0. Assumes nothing.
+use Rattle.scales.proofs.HeadroomLaws.{headroom-laws}
+use Rattle.scales.proofs.headroom.Statement.{statement}
+use Rattle.scales.proofs.headroom.Tie as tie
+
+pub headroom-spec : {M : Type 1} → statement M
+headroom-spec = tie.close (tie.spec (λ c. search headroom-laws))

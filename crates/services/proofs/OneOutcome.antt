@@ -1,0 +1,167 @@
+-- Each promise allows one outcome: two to which a call could come by it are the same. So no reply is left open. Assumes nothing.
+use Prim.Native.Nat.{ℕ, suc, _≤_, _<_}
+use native.Mathlib.Omega.{arith}
+use mathlib.Core.Path.{_≡_, refl, sym, ap, _∙_, subst}
+use mathlib.Core.Logic.{_⊎_, inl, inr}
+use mathlib.Core.List.{List}
+use mathlib.Core.Option.{some}
+use lib.Dec.{T}
+use lib.ListN.{length, getD, take, length-take}
+use lib.Seq.{getD-take, take-take}
+use Rattle.fields.specs.Pieces.{Bytes, lineFeed, split}
+use Rattle.model.specs.declared.Header.{Header}
+use Rattle.model.specs.declared.Line.{Line}
+use Rattle.model.specs.declared.Line.the-variants.{Free}
+use Rattle.model.specs.declared.Grammar.the-variants.{Circuit, Schedule}
+use Rattle.rows.specs.Rows.{placeOf, Reading, read, refused}
+use Rattle.model.specs.Files.{File}
+use Rattle.model.specs.Machine.{stopped, run}
+use Rattle.model.specs.Plan.{bestMachine}
+use Rattle.model.specs.Rules.{KeepsRules, Rule, Bounds, hasScale}
+use Rattle.model.specs.Services.{scheduled, plan, eraseFile}
+use Rattle.model.specs.Broken.{firstFault, lineFaults, FirstBroken}
+use Rattle.model.specs.Demands.{Schedulable}
+use Rattle.model.proofs.Tests.{below-or-not}
+use Rattle.text.specs.Files.{readText, circuitContext, scheduleContext, eraseContext, fileText}
+use Rattle.services.specs.Outcomes.{Outcome, writes, passes, fitsAt, refuses}
+use Rattle.services.specs.Promises as Promises
+use Rattle.services.specs.Promises.{Plans, TooFew, PlanComesTo, TextsDifferAt, Verdict, keeps-rules, other-circuit, breaks-rule}
+use Rattle.services.specs.Promises.{CheckComesTo, EraseComesTo, Least, LeastComesTo}
+use Rattle.services.proofs.Texts.{not-both, one-file}
+
+-- ---- one reading, one line, one level
+neither-below : (m n : ℕ) → (m < n → ⊥) → (n < m → ⊥) → m ≡ n
+neither-below m n f g = go (below-or-not m n) (below-or-not n m)
+  where
+    go : (m < n) ⊎ (n ≤ m) → (n < m) ⊎ (m ≤ n) → m ≡ n
+    go (inl u) v = absurd (f u)
+    go (inr u) (inl v) = absurd (g v)
+    go (inr u) (inr v) = omega arith
+
+same-refusal : {x : Reading File} {m p n q : ℕ} (file : ℕ) → x ≡ refused m p → x ≡ refused n q → refuses m file p ≡ refuses n file q
+same-refusal file e f = cc
+
+too-few-place : {h : Header} {lines : List Line} {p q : ℕ} → TooFew h lines p → TooFew h lines q → p ≡ q
+too-few-place {h} {lines} {p} {q} s t =
+    let first = s .stops in
+    let second = t .stops in
+    let same : s .line ≡ t .line = cc in
+    s .place-is ∙ ap placeOf same ∙ sym (t .place-is)
+
+least-level : {file : File} {l m : ℕ} → Least file l → Least file m → l ≡ m
+least-level {file} {l} {m} x y =
+    neither-below l m (λ u. y .least l (x .low) u (x .fits)) (λ u. x .least m (y .low) u (y .fits))
+
+-- ---- plan
+pub one-plan : (circuit : Bytes) {o q : Outcome} → PlanComesTo circuit o → PlanComesTo circuit q → o ≡ q
+one-plan circuit (Promises.unread m p u) (Promises.unread n q v) = same-refusal 1 (u .is-refused) (v .is-refused)
+one-plan circuit (Promises.unread m p u) (Promises.too-few f q e t) = not-both e (u .is-refused)
+one-plan circuit (Promises.unread m p u) (Promises.plans w x) = not-both (x .passed .files .circuit-reads) (u .is-refused)
+one-plan circuit (Promises.too-few f p e s) (Promises.unread n q v) = not-both e (v .is-refused)
+one-plan circuit (Promises.too-few f p e s) (Promises.too-few k q i t) =
+    ap (refuses 6 1) (too-few-place s (subst (λ (x : File). TooFew (x .header) (x .lines) q) (one-file i e) t))
+one-plan circuit (Promises.too-few f p e s) (Promises.plans w x) =
+    absurd (s .no-schedule (subst (λ (k : File). Schedulable (k .header) (k .lines)) (one-file (x .passed .files .circuit-reads) e) (x .exists)))
+one-plan circuit (Promises.plans w x) (Promises.unread n q v) = not-both (x .passed .files .circuit-reads) (v .is-refused)
+one-plan circuit (Promises.plans w x) (Promises.too-few f p e s) =
+    absurd (s .no-schedule (subst (λ (k : File). Schedulable (k .header) (k .lines)) (one-file (x .passed .files .circuit-reads) e) (x .exists)))
+one-plan circuit (Promises.plans w x) (Promises.plans v y) =
+    let is = x .is-plan in
+    let other : plan (x .passed .files .circuit-file) ≡ scheduled (y .passed .files .schedule-file) =
+    ap plan (one-file (x .passed .files .circuit-reads) (y .passed .files .circuit-reads)) ∙ y .is-plan in
+    let same : x .passed .files .schedule-file ≡ y .passed .files .schedule-file = cc in
+    ap writes (x .text-is ∙ ap (fileText Schedule) same ∙ sym (y .text-is))
+
+-- ---- erase
+pub one-erasure : (schedule : Bytes) {o q : Outcome} → EraseComesTo schedule o → EraseComesTo schedule q → o ≡ q
+one-erasure schedule (Promises.unread m p u) (Promises.unread n q v) = same-refusal 1 (u .is-refused) (v .is-refused)
+one-erasure schedule (Promises.unread m p u) (Promises.erases f w e t r) = not-both e (u .is-refused)
+one-erasure schedule (Promises.erases f w e t r) (Promises.unread n q v) = not-both e (v .is-refused)
+one-erasure schedule (Promises.erases f w e t r) (Promises.erases k v i s d) =
+    ap writes (t ∙ ap (λ (x : File). fileText Circuit (eraseFile x)) (one-file e i) ∙ sym s)
+
+-- ---- least level
+pub one-level : (circuit : Bytes) {o q : Outcome} → LeastComesTo circuit o → LeastComesTo circuit q → o ≡ q
+one-level circuit (Promises.unread m p u) (Promises.unread n q v) = same-refusal 1 (u .is-refused) (v .is-refused)
+one-level circuit (Promises.unread m p u) (Promises.fits-from f l e x) = not-both e (u .is-refused)
+one-level circuit (Promises.unread m p u) (Promises.too-few f q e t) = not-both e (u .is-refused)
+one-level circuit (Promises.fits-from f l e x) (Promises.unread n q v) = not-both e (v .is-refused)
+one-level circuit (Promises.fits-from f l e x) (Promises.fits-from k m i y) =
+    ap fitsAt (least-level x (subst (λ (z : File). Least z m) (one-file i e) y))
+one-level circuit (Promises.fits-from f l e x) (Promises.too-few k q i t) =
+    absurd (t .none-fits l (x .low) (x .high) (subst (λ (z : File). Promises.Fits z l) (one-file e i) (x .fits)))
+one-level circuit (Promises.too-few f p e s) (Promises.unread n q v) = not-both e (v .is-refused)
+one-level circuit (Promises.too-few f p e s) (Promises.fits-from k m i y) =
+    absurd (s .none-fits m (y .low) (y .high) (subst (λ (z : File). Promises.Fits z m) (one-file i e) (y .fits)))
+one-level circuit (Promises.too-few f p e s) (Promises.too-few k q i t) =
+    ap (refuses 6 1) (too-few-place (s .at-sixty) (subst (λ (z : File). Promises.NoneFits z q) (one-file i e) t .at-sixty))
+
+-- ---- check
+-- lines that keep the rules do so up to any line
+keeps-up-to : {h : Header} (xs : List Line) → KeepsRules h xs → (n : ℕ) → KeepsRules h (take n xs)
+keeps-up-to {h} xs k n = record { scale = k .scale; level = k .level; rules = rules; bounds = bounds }
+  where
+    shorter : (i : ℕ) → i < length (take n xs) → (i < n) × (i < length xs)
+    shorter i u = (let long = length-take n xs in omega arith, let long = length-take n xs in omega arith)
+
+    same : (i : ℕ) → i < length (take n xs) → getD (take n xs) i Free ≡ getD xs i Free
+    same i u = getD-take n xs i Free (shorter i u .0)
+
+    rules : (i : ℕ) → i < length (take n xs) → Rule h (k .scale) (k .level) i (getD (take n xs) i Free)
+    rules i u = subst (Rule h (k .scale) (k .level) i) (sym (same i u)) (k .rules i (shorter i u .1))
+
+    bounds : (i : ℕ) → i < length (take n xs) → T (hasScale (getD (take n xs) i Free)) → Bounds h (k .scale i) (k .level i)
+    bounds i u t = k .bounds i (shorter i u .1) (subst (λ (x : Line). T (hasScale x)) (same i u) t)
+
+keeps-shorter : {h : Header} (xs : List Line) (m n : ℕ) → m ≤ n → KeepsRules h (take n xs) → KeepsRules h (take m xs)
+keeps-shorter {h} xs m n u k = subst (KeepsRules h) (take-take m n xs u) (keeps-up-to (take n xs) k m)
+
+first-broken-one : {h : Header} {xs : List Line} {m p n q : ℕ} → FirstBroken h xs m p → FirstBroken h xs n q → refuses m 2 p ≡ refuses n 2 q
+first-broken-one {h} {xs} {m} {p} {n} {q} x y =
+    let line = neither-below (x .line) (y .line) (λ u. x .with-it (keeps-shorter xs (suc (x .line)) (y .line) u (y .before)))
+    (λ u. y .with-it (keeps-shorter xs (suc (y .line)) (x .line) u (x .before))) in
+    let place = x .place-is ∙ ap placeOf line ∙ sym (y .place-is) in
+    let before = subst (λ (i : ℕ). KeepsRules h (take i xs)) line (x .before) in
+    let first = subst (NumberAt m) line (x .number-is) before in
+    let second = y .number-is before in
+    let number : m ≡ n = cc in
+    cc
+  where
+    NumberAt : ℕ → ℕ → Type 0
+    NumberAt k i = (r : KeepsRules h (take i xs)) → firstFault (lineFaults h (r .scale) (r .level) (getD xs i Free)) ≡ some k
+
+texts-differ-one : {xs ys : List Bytes} {p q : ℕ} → TextsDifferAt xs ys p → TextsDifferAt xs ys q → p ≡ q
+texts-differ-one {xs} {ys} {p} {q} x y =
+    let line = neither-below (x .line) (y .line) (λ u. x .with-it (up-to (suc (x .line)) (y .line) u (y .before)))
+    (λ u. y .with-it (up-to (suc (y .line)) (x .line) u (x .before))) in
+    x .place-is ∙ ap suc line ∙ sym (y .place-is)
+  where
+    up-to : (m n : ℕ) → m ≤ n → take n xs ≡ take n ys → take m xs ≡ take m ys
+    up-to m n u e = sym (take-take m n xs u) ∙ ap (take m) e ∙ take-take m n ys u
+
+-- texts that are the same differ nowhere
+same-texts : {P : Type 0} {text circuit : Bytes} {p : ℕ} → text ≡ circuit → TextsDifferAt (split lineFeed circuit) (split lineFeed text) p → P
+same-texts e x = absurd (x .with-it (ap (λ (t : Bytes). take (suc (x .line)) (split lineFeed t)) (sym e)))
+
+one-verdict : (circuit : Bytes) (s : File) {o q : Outcome} → Verdict circuit s o → Verdict circuit s q → o ≡ q
+one-verdict circuit s (keeps-rules e k) (keeps-rules i j) = refl
+one-verdict circuit s (keeps-rules e k) (other-circuit p x) = same-texts e x
+one-verdict circuit s (keeps-rules e k) (breaks-rule n p i b) = absurd (b .with-it (keeps-up-to (s .lines) k (suc (b .line))))
+one-verdict circuit s (other-circuit p x) (keeps-rules e k) = same-texts e x
+one-verdict circuit s (other-circuit p x) (other-circuit q y) = ap (refuses 12 1) (texts-differ-one x y)
+one-verdict circuit s (other-circuit p x) (breaks-rule n q e b) = same-texts e x
+one-verdict circuit s (breaks-rule n p i b) (keeps-rules e k) = absurd (b .with-it (keeps-up-to (s .lines) k (suc (b .line))))
+one-verdict circuit s (breaks-rule n p e b) (other-circuit q x) = same-texts e x
+one-verdict circuit s (breaks-rule m p e a) (breaks-rule n q i b) = first-broken-one a b
+
+pub one-check : (circuit schedule : Bytes) {o q : Outcome} → CheckComesTo circuit schedule o → CheckComesTo circuit schedule q → o ≡ q
+one-check circuit schedule (Promises.circuit-unread m p u) (Promises.circuit-unread n q v) = same-refusal 1 (u .is-refused) (v .is-refused)
+one-check circuit schedule (Promises.circuit-unread m p u) (Promises.schedule-unread f n q e v) = not-both e (u .is-refused)
+one-check circuit schedule (Promises.circuit-unread m p u) (Promises.both-read b q v) = not-both (b .circuit-reads) (u .is-refused)
+one-check circuit schedule (Promises.schedule-unread f m p e u) (Promises.circuit-unread n q v) = not-both e (v .is-refused)
+one-check circuit schedule (Promises.schedule-unread f m p e u) (Promises.schedule-unread k n q i v) = same-refusal 2 (u .is-refused) (v .is-refused)
+one-check circuit schedule (Promises.schedule-unread f m p e u) (Promises.both-read b q v) = not-both (b .schedule-reads) (u .is-refused)
+one-check circuit schedule (Promises.both-read b o v) (Promises.circuit-unread n q u) = not-both (b .circuit-reads) (u .is-refused)
+one-check circuit schedule (Promises.both-read b o v) (Promises.schedule-unread k n q i u) = not-both (b .schedule-reads) (u .is-refused)
+one-check circuit schedule (Promises.both-read b o v) (Promises.both-read d q w) =
+    one-verdict circuit (b .schedule-file) v (subst (λ (s : File). Verdict circuit s q) (one-file (d .schedule-reads) (b .schedule-reads)) w)

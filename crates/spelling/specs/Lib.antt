@@ -1,0 +1,2 @@
+-- What writing a text into a buffer comes to.
+pub mod Put

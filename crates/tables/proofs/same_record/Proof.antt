@@ -1,0 +1,21 @@
+-- `tables::same_record` meets its contract: the records agree in each number or in one they do not. Assumes nothing.
+use Rattle.tables.proofs.Sameness.{same-laws}
+use Rattle.tables.proofs.same_record.Statement.{statement}
+use Rattle.tables.proofs.same_record.Tie as tie
+
+pub same-record-spec : {M : Type 1} → statement M
+same-record-spec =
+    tie.close
+    (tie.spec
+    (λ c. search same-laws)
+    (λ c. search same-laws)
+    (λ c. search same-laws)
+    (λ c. search same-laws)
+    (λ c. search same-laws)
+    (λ c. search same-laws)
+    (λ c. search same-laws)
+    (λ c. search same-laws)
+    (λ c. search same-laws)
+    (λ c. search same-laws)
+    (λ c. search same-laws)
+    (λ c. search same-laws))

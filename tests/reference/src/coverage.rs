@@ -1,0 +1,430 @@
+//! What the calls of a run have covered: every reply, every conversion and every limit on both sides, at each file that can show it. A run
+//! that covers less than is asked fails, so that no generator passes by making nothing.
+
+use crate::both::Call;
+use crate::library::Service;
+use crate::services::Reply;
+use crate::text::{CIRCUIT_LINES, KEPT_LINES, SCHEDULE_LINES};
+
+/// A file that is handed to a service.
+#[derive(Clone, Copy, PartialEq, Eq)]
+enum Place {
+    Plan,
+    CheckCircuit,
+    CheckSchedule,
+    Erase,
+    LeastLevel,
+}
+
+const PLACES: [(Place, &str); 5] = [
+    (Place::Plan, "plan"),
+    (Place::CheckCircuit, "check, circuit"),
+    (Place::CheckSchedule, "check, schedule"),
+    (Place::Erase, "erase"),
+    (Place::LeastLevel, "least level"),
+];
+
+const ALL: &[Place] = &[Place::Plan, Place::CheckCircuit, Place::CheckSchedule, Place::Erase, Place::LeastLevel];
+const CIRCUITS: &[Place] = &[Place::Plan, Place::CheckCircuit, Place::LeastLevel];
+const SCHEDULES: &[Place] = &[Place::CheckSchedule, Place::Erase];
+const WRITING: &[Place] = &[Place::Plan, Place::Erase];
+
+/// What is asked for the rows of a class.
+#[derive(Clone, Copy, PartialEq, Eq)]
+enum Class {
+    Reply,
+    Conversion,
+    Limit,
+    Buffer,
+}
+
+/// The least numbers of a run, for each class; 0 where a class is not asked for.
+pub struct Asked {
+    pub replies: u64,
+    pub conversions: u64,
+    pub limits: u64,
+    pub buffers: u64,
+    /// Whether only planning is called.
+    pub only_plan: bool,
+}
+
+/// A row of the table. A limit has two sides: the last that is taken, and the first that is not.
+struct Row {
+    name: &'static str,
+    class: Class,
+    sides: usize,
+    places: &'static [Place],
+}
+
+const fn reply(name: &'static str, places: &'static [Place]) -> Row {
+    Row { name, class: Class::Reply, sides: 1, places }
+}
+
+const fn conversion(name: &'static str) -> Row {
+    Row { name, class: Class::Conversion, sides: 1, places: &[Place::Plan, Place::CheckSchedule, Place::Erase] }
+}
+
+const fn limit(name: &'static str, places: &'static [Place]) -> Row {
+    Row { name, class: Class::Limit, sides: 2, places }
+}
+
+/// Replies stand at their numbers; the other rows are named below.
+const ROWS: [Row; 36] = [
+    reply("success", ALL),
+    reply("1 text not of the form", ALL),
+    reply("2 header number", ALL),
+    reply("3 too many lines", ALL),
+    reply("4 no usable line", ALL),
+    reply("5 wrong kind", ALL),
+    reply("6 too few levels", &[Place::Plan, Place::LeastLevel]),
+    reply("7 levels differ", &[Place::CheckSchedule]),
+    reply("8 scales differ", &[Place::CheckSchedule]),
+    reply("9 above the modulus", &[Place::CheckSchedule]),
+    reply("10 below the waterline", &[Place::CheckSchedule]),
+    reply("11 other number", ALL),
+    reply("12 another circuit", &[Place::CheckCircuit]),
+    Row { name: "13 buffer too short", class: Class::Buffer, sides: 1, places: WRITING },
+    conversion("success with ms"),
+    conversion("success with us"),
+    conversion("success with rs"),
+    conversion("success with enc"),
+    limit("256 | 257 circuit lines", CIRCUITS),
+    limit("1792 | 1793 schedule lines", SCHEDULES),
+    limit("256 | 257 kept lines", &[Place::Erase]),
+    limit("F = 1 | 0", ALL),
+    limit("W = 1 | 0", ALL),
+    limit("L = 1 | 0", ALL),
+    limit("F = 60 | 61", ALL),
+    limit("W = 60 | 61", ALL),
+    limit("L = 60 | 61", ALL),
+    limit("const 65535 | 65536", ALL),
+    limit("rot by 32767 | 32768", ALL),
+    limit("rot by -32767 | -32768", ALL),
+    limit("us by 3600 | 3601", SCHEDULES),
+    limit("enc at 3600 | 3601", SCHEDULES),
+    limit("rs by 60 | 61", SCHEDULES),
+    limit("ms by 60 | 61", SCHEDULES),
+    limit("field of 11 | 12 digits", ALL),
+    Row { name: "buffer enough | one short", class: Class::Buffer, sides: 2, places: WRITING },
+];
+
+const MS: usize = 14;
+const US: usize = 15;
+const RS: usize = 16;
+const ENC: usize = 17;
+const CIRCUIT_LIMIT: usize = 18;
+const SCHEDULE_LIMIT: usize = 19;
+const KEPT_LIMIT: usize = 20;
+const HEADER_LOW: usize = 21;
+const HEADER_HIGH: usize = 24;
+const CONSTANT: usize = 27;
+const ROTATION: usize = 28;
+const ROTATION_BACK: usize = 29;
+const UPSCALE: usize = 30;
+const ENCODED: usize = 31;
+const RESCALES: usize = 32;
+const MODSWITCHES: usize = 33;
+const DIGITS: usize = 34;
+const BUFFER: usize = 35;
+
+/// The two sides of a limit.
+const TAKEN: usize = 0;
+const REFUSED: usize = 1;
+
+#[derive(Clone)]
+pub struct Coverage {
+    counts: [[[u64; 2]; PLACES.len()]; ROWS.len()],
+    /// How often each number was replied.
+    pub numbers: [u64; 14],
+    /// The last text that was written with room to spare: service, input and length.
+    written: Option<(Service, Vec<u8>, usize)>,
+}
+
+impl Default for Coverage {
+    fn default() -> Coverage {
+        Coverage { counts: [[[0; 2]; PLACES.len()]; ROWS.len()], numbers: [0; 14], written: None }
+    }
+}
+
+/// Whether a number is one that reading refuses with.
+fn is_reading(number: u32) -> bool {
+    matches!(number, 1..=5 | 11)
+}
+
+fn line_at(text: &[u8], place: u32) -> &[u8] {
+    text.split(|&byte| byte == b'\n').nth(place as usize - 1).unwrap_or_default()
+}
+
+fn is_digits(field: &[u8], length: usize) -> bool {
+    field.len() == length && field[0] != b'0' && field.iter().all(u8::is_ascii_digit)
+}
+
+/// The row of a limit that a field keeps to, where it is the last number taken (`past` 0) or the first that is not (`past` 1).
+fn limit_of(line: &[u8], past: usize) -> Option<usize> {
+    let ends = |numbers: [&str; 2]| line.ends_with(numbers[past].as_bytes());
+    let row = match line.get(..2)? {
+        b"co" if ends(["\t65535", "\t65536"]) => CONSTANT,
+        b"ro" if ends(["\t32767", "\t32768"]) => ROTATION,
+        b"ro" if ends(["\t-32767", "\t-32768"]) => ROTATION_BACK,
+        b"us" if ends(["\t3600", "\t3601"]) => UPSCALE,
+        b"en" if ends(["\t3600\t1", "\t3601\t1"]) => ENCODED,
+        b"rs" if ends(["\t60", "\t61"]) => RESCALES,
+        b"ms" if ends(["\t60", "\t61"]) => MODSWITCHES,
+        _ => return None,
+    };
+    Some(row)
+}
+
+impl Coverage {
+    pub fn add(&mut self, other: &Coverage) {
+        self.numbers.iter_mut().zip(other.numbers).for_each(|(sum, count)| *sum += count);
+        for (row, theirs) in self.counts.iter_mut().zip(&other.counts) {
+            for (place, theirs) in row.iter_mut().zip(theirs) {
+                place.iter_mut().zip(theirs).for_each(|(sum, count)| *sum += count);
+            }
+        }
+    }
+
+    fn count(&mut self, row: usize, side: usize, place: Place) {
+        self.counts[row][place as usize][side] += 1;
+    }
+
+    /// Counts a call with its reply and the bytes that it wrote.
+    pub fn count_call(&mut self, call: &Call, reply: Reply, written: &[u8]) {
+        self.numbers[reply.number as usize] += 1;
+        match call.service {
+            Service::Plan => self.count_file(Place::Plan, 1, call.first, reply),
+            Service::Erase => self.count_file(Place::Erase, 1, call.first, reply),
+            Service::LeastLevel => self.count_file(Place::LeastLevel, 1, call.first, reply),
+            Service::Check => {
+                self.count_file(Place::CheckCircuit, 1, call.first, reply);
+                if !is_reading(reply.number) || reply.file == 2 {
+                    self.count_file(Place::CheckSchedule, 2, call.second, reply);
+                }
+            }
+        }
+        match call.service {
+            Service::Plan => self.count_written(Place::Plan, call, reply, written),
+            Service::Erase => self.count_written(Place::Erase, call, reply, written),
+            _ => {}
+        }
+        if reply.number == 0 && call.service == Service::Plan {
+            self.count_conversions(Place::Plan, written);
+        }
+    }
+
+    /// Counts a file that was read, or refused while it was read.
+    fn count_file(&mut self, place: Place, file: u32, text: &[u8], reply: Reply) {
+        if reply.number == 0 || reply.number == 13 || reply.file == file {
+            self.count(reply.number as usize, TAKEN, place);
+        }
+        if !is_reading(reply.number) || reply.file > file {
+            self.count_taken(place, text);
+        } else {
+            self.count_refused(place, text, reply);
+        }
+        if reply.number == 0 && SCHEDULES.contains(&place) {
+            self.count_conversions(place, text);
+        }
+    }
+
+    fn count_conversions(&mut self, place: Place, schedule: &[u8]) {
+        let mut found = [false; 4];
+        for line in schedule.split(|&byte| byte == b'\n') {
+            match line.get(..2) {
+                Some(b"ms") => found[0] = true,
+                Some(b"us") => found[1] = true,
+                Some(b"rs") => found[2] = true,
+                Some(b"en") => found[3] = true,
+                _ => {}
+            }
+        }
+        for (found, row) in found.into_iter().zip([MS, US, RS, ENC]) {
+            if found {
+                self.count(row, TAKEN, place);
+            }
+        }
+    }
+
+    /// A file that was read whole: which of its numbers and lines are the last that are taken.
+    fn count_taken(&mut self, place: Place, text: &[u8]) {
+        let mut found = [false; ROWS.len()];
+        let mut lines = text.split(|&byte| byte == b'\n');
+        let header = lines.next().unwrap_or_default().split(|&byte| byte == b'\t').skip(1);
+        for (number, field) in header.enumerate().take(3) {
+            found[HEADER_LOW + number] = field == b"1";
+            found[HEADER_HIGH + number] = field == b"60";
+        }
+        let (mut count, mut kept) = (0, 0);
+        for line in lines.filter(|line| !line.is_empty()) {
+            count += 1;
+            kept += usize::from(!matches!(&line[..2], b"ms" | b"us" | b"rs" | b"en"));
+            if let Some(row) = limit_of(line, TAKEN) {
+                found[row] = true;
+            }
+        }
+        found[CIRCUIT_LIMIT] = count == CIRCUIT_LINES && CIRCUITS.contains(&place);
+        found[SCHEDULE_LIMIT] = count == SCHEDULE_LINES;
+        found[KEPT_LIMIT] = kept == KEPT_LINES && place == Place::Erase;
+        (0..ROWS.len()).filter(|&row| found[row]).for_each(|row| self.count(row, TAKEN, place));
+    }
+
+    /// A file that was refused while it was read: which limit the refused line passes.
+    fn count_refused(&mut self, place: Place, text: &[u8], reply: Reply) {
+        let line = line_at(text, reply.place);
+        let fields: Vec<&[u8]> = line.split(|&byte| byte == b'\t').skip(1).collect();
+        match reply.number {
+            1 if fields.iter().any(|field| is_digits(field, 12)) => self.count(DIGITS, REFUSED, place),
+            2 | 4 | 11 if fields.iter().any(|field| is_digits(field, 11)) => self.count(DIGITS, TAKEN, place),
+            2 => self.count_header(place, &fields),
+            3 if reply.place as usize == CIRCUIT_LINES + 2 && CIRCUITS.contains(&place) => {
+                self.count(CIRCUIT_LIMIT, REFUSED, place)
+            }
+            3 if reply.place as usize == SCHEDULE_LINES + 2 => self.count(SCHEDULE_LIMIT, REFUSED, place),
+            3 => self.count(KEPT_LIMIT, REFUSED, place),
+            11 => limit_of(line, REFUSED).into_iter().for_each(|row| self.count(row, REFUSED, place)),
+            _ => {}
+        }
+    }
+
+    /// A header refused with 2: one number that is just outside, the others inside.
+    fn count_header(&mut self, place: Place, fields: &[&[u8]]) {
+        let outside = |field: &&&[u8]| field.len() > 2 || **field == b"0" || field.len() == 2 && **field > b"60".as_slice();
+        if fields.iter().filter(outside).count() != 1 {
+            return;
+        }
+        for (number, field) in fields.iter().enumerate() {
+            match *field {
+                b"0" => self.count(HEADER_LOW + number, REFUSED, place),
+                b"61" => self.count(HEADER_HIGH + number, REFUSED, place),
+                _ => {}
+            }
+        }
+    }
+
+    /// A buffer of exactly the length, and one byte less.
+    fn count_written(&mut self, place: Place, call: &Call, reply: Reply, written: &[u8]) {
+        if reply.number == 0 && call.room > written.len() {
+            self.written = Some((call.service, call.first.to_vec(), written.len()));
+        }
+        if reply.number == 0 && call.room == written.len() {
+            self.count(BUFFER, TAKEN, place);
+        }
+        let one_short = |(service, input, length): &(Service, Vec<u8>, usize)| {
+            *service == call.service && *length == call.room + 1 && input == call.first
+        };
+        if reply.number == 13 && self.written.as_ref().is_some_and(one_short) {
+            self.count(BUFFER, REFUSED, place);
+        }
+    }
+
+    /// Whether a limit was met, on either side.
+    pub fn is_at_limit(&self) -> bool {
+        let is_met = |counts: &[[u64; 2]; PLACES.len()]| counts.iter().flatten().any(|&count| count > 0);
+        ROWS.iter().zip(&self.counts).any(|(row, counts)| row.class == Class::Limit && is_met(counts))
+    }
+
+    /// Prints the counts, and says whether each is at least what is asked.
+    pub fn print(&self, asked: &Asked) -> bool {
+        let places = if asked.only_plan { &PLACES[..1] } else { &PLACES };
+        let heads: Vec<String> = places.iter().map(|(_, name)| format!("{name:>17}")).collect();
+        println!("{:<27}{}", "what was tried", heads.concat());
+        let mut enough = true;
+        for (row, counts) in ROWS.iter().zip(&self.counts) {
+            let least = match row.class {
+                Class::Reply => asked.replies,
+                Class::Conversion => asked.conversions,
+                Class::Limit => asked.limits,
+                Class::Buffer => asked.buffers,
+            };
+            if least == 0 || !places.iter().any(|(place, _)| row.places.contains(place)) {
+                continue;
+            }
+            let cells = places.iter().map(|&(place, _)| match row.places.contains(&place) {
+                true => {
+                    let sides = &counts[place as usize][..row.sides];
+                    let is_enough = sides.iter().all(|&count| count >= least);
+                    enough &= is_enough;
+                    let cell = sides.iter().map(u64::to_string).collect::<Vec<String>>().join(" | ");
+                    format!("{cell}{}", if is_enough { "" } else { " !" })
+                }
+                false => "-".to_string(),
+            });
+            let cells: Vec<String> = cells.map(|cell| format!("{cell:>17}")).collect();
+            println!("{:<27}{}", row.name, cells.concat());
+        }
+        enough
+    }
+}
+
+#[cfg(test)]
+mod tests {
+    use super::*;
+    use crate::services;
+
+    fn counted(circuits: &[(&str, usize)]) -> Coverage {
+        let mut coverage = Coverage::default();
+        for (shown, room) in circuits {
+            let circuit = shown.replace('/', "\n").replace(' ', "\t").into_bytes();
+            let mut out = vec![0; *room];
+            let reply = services::plan(&circuit, &mut out);
+            let call = Call { service: Service::Plan, first: &circuit, second: &[], room: *room };
+            coverage.count_call(&call, reply, &out[..reply.length as usize]);
+        }
+        coverage
+    }
+
+    /// The counts of planning in a row.
+    fn row(coverage: &Coverage, row: usize) -> [u64; 2] {
+        coverage.counts[row][Place::Plan as usize]
+    }
+
+    #[test]
+    fn limits_are_counted_on_their_sides() {
+        let constants = counted(&[("circuit 60 20 1/const 65535/", 99), ("circuit 60 20 1/const 65536/", 99)]);
+        assert_eq!(row(&constants, CONSTANT), [1, 1]);
+        assert_eq!([row(&constants, 0)[0], row(&constants, 11)[0]], [1, 1]);
+        let headers = counted(&[("circuit 60 20 1/", 99), ("circuit 61 20 1/", 99), ("circuit 61 61 1/", 99)]);
+        assert_eq!([row(&headers, HEADER_HIGH), row(&headers, HEADER_HIGH + 1)], [[1, 1], [0, 0]]);
+        let digits = counted(&[("circuit 60 20 1/in/neg 99999999999/", 99), ("circuit 60 20 1/in/neg 999999999999/", 99)]);
+        assert_eq!(row(&digits, DIGITS), [1, 1]);
+        let lines = ["in/".repeat(256), "in/".repeat(257)].map(|lines| format!("circuit 60 20 1/{lines}"));
+        assert_eq!(row(&counted(&[(&lines[0], 9999), (&lines[1], 9999)]), CIRCUIT_LIMIT), [1, 1]);
+    }
+
+    #[test]
+    fn a_buffer_one_short_is_known_by_the_length_before() {
+        let circuit = "circuit 60 20 1/in/";
+        let length = "schedule 60 20 1/in/".len();
+        assert_eq!(row(&counted(&[(circuit, length - 1)]), BUFFER), [0, 0]);
+        assert_eq!(row(&counted(&[(circuit, 99), (circuit, length), (circuit, length - 1)]), BUFFER), [1, 1]);
+    }
+
+    #[test]
+    fn rows_stand_at_their_names() {
+        let names = [
+            (MS, "success with ms"),
+            (ENC, "success with enc"),
+            (CIRCUIT_LIMIT, "256 | 257 circuit lines"),
+            (HEADER_LOW, "F = 1 | 0"),
+        ];
+        let more = [
+            (HEADER_HIGH, "F = 60 | 61"),
+            (CONSTANT, "const 65535 | 65536"),
+            (UPSCALE, "us by 3600 | 3601"),
+            (DIGITS, "field of 11 | 12 digits"),
+        ];
+        assert!(names.iter().chain(&more).all(|&(row, name)| ROWS[row].name == name));
+        assert_eq!(BUFFER, ROWS.len() - 1);
+        assert!(PLACES.iter().enumerate().all(|(at, &(place, _))| place as usize == at));
+    }
+
+    #[test]
+    fn nothing_is_not_enough() {
+        let asked = Asked { replies: 1, conversions: 1, limits: 1, buffers: 1, only_plan: false };
+        assert!(!Coverage::default().print(&asked));
+        assert!(
+            counted(&[("circuit 60 20 2/in/const 7/mul 0 1/mul 2 1/mul 3 3/", 999)]).counts[US][Place::Plan as usize][0] == 1
+        );
+    }
+}

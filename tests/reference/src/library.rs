@@ -1,0 +1,94 @@
+//! What is called from C: the archive under test and the yardstick, by their C declarations and one safe wrapper.
+
+use crate::services::Reply;
+
+extern "C" {
+    fn gowashiru_plan(circuit: *const u8, circuit_len: usize, out: *mut u8, out_len: usize) -> Reply;
+    fn gowashiru_check(circuit: *const u8, circuit_len: usize, schedule: *const u8, schedule_len: usize) -> Reply;
+    fn gowashiru_erase(schedule: *const u8, schedule_len: usize, out: *mut u8, out_len: usize) -> Reply;
+    fn gowashiru_least_level(circuit: *const u8, circuit_len: usize) -> Reply;
+    fn yardstick_plan(circuit: *const u8, circuit_len: usize, out: *mut u8, out_len: usize) -> Reply;
+    fn yardstick_check(circuit: *const u8, circuit_len: usize, schedule: *const u8, schedule_len: usize) -> Reply;
+    fn yardstick_erase(schedule: *const u8, schedule_len: usize, out: *mut u8, out_len: usize) -> Reply;
+    fn yardstick_least_level(circuit: *const u8, circuit_len: usize) -> Reply;
+}
+
+/// The proved archive, or the same services in plain C.
+#[derive(Clone, Copy, PartialEq, Eq, Debug)]
+pub enum Library {
+    Archive,
+    Yardstick,
+}
+
+#[derive(Clone, Copy, PartialEq, Eq, Debug)]
+pub enum Service {
+    Plan,
+    Check,
+    Erase,
+    LeastLevel,
+}
+
+/// Bytes to be lent, with guard bytes on both sides. Inputs are lent from memory that could be written, so that a write by
+/// the called one shows afterwards and is not presumed away.
+#[derive(Clone, PartialEq, Eq)]
+pub struct Lent {
+    framed: Vec<u8>,
+    start: usize,
+    length: usize,
+    null_if_empty: bool,
+}
+
+impl Lent {
+    pub fn new(before: &[u8], bytes: &[u8], after: &[u8], null_if_empty: bool) -> Lent {
+        let framed = [before, bytes, after].concat();
+        Lent { framed, start: before.len(), length: bytes.len(), null_if_empty }
+    }
+
+    pub fn bytes(&self) -> &[u8] {
+        &self.framed[self.start..self.start + self.length]
+    }
+
+    pub fn bytes_mut(&mut self) -> &mut [u8] {
+        &mut self.framed[self.start..self.start + self.length]
+    }
+
+    /// The lent bytes and the guard bytes around them.
+    pub fn framed(&self) -> &[u8] {
+        &self.framed
+    }
+
+    /// Where the lent bytes begin among the framed ones.
+    pub fn start(&self) -> usize {
+        self.start
+    }
+
+    fn pointer(&mut self) -> *mut u8 {
+        if self.length == 0 && self.null_if_empty {
+            std::ptr::null_mut()
+        } else {
+            // The pointer may reach the guard bytes, so a write there is seen too.
+            self.framed.as_mut_ptr().wrapping_add(self.start)
+        }
+    }
+}
+
+/// Calls a service. `second` is asked for by check alone, `out` by plan and erase.
+pub fn call(library: Library, service: Service, first: &mut Lent, second: &mut Lent, out: &mut Lent) -> Reply {
+    let (a, a_length) = (first.pointer(), first.length);
+    let (b, b_length) = (second.pointer(), second.length);
+    let (result, room) = (out.pointer(), out.length);
+    // SAFETY: each pointer with its length lies in a vector of its own, borrowed for writing during the call; the three do not
+    // overlap; with length 0 a pointer is not followed. Threads here have more stack than the header asks for.
+    unsafe {
+        match (library, service) {
+            (Library::Archive, Service::Plan) => gowashiru_plan(a, a_length, result, room),
+            (Library::Archive, Service::Check) => gowashiru_check(a, a_length, b, b_length),
+            (Library::Archive, Service::Erase) => gowashiru_erase(a, a_length, result, room),
+            (Library::Archive, Service::LeastLevel) => gowashiru_least_level(a, a_length),
+            (Library::Yardstick, Service::Plan) => yardstick_plan(a, a_length, result, room),
+            (Library::Yardstick, Service::Check) => yardstick_check(a, a_length, b, b_length),
+            (Library::Yardstick, Service::Erase) => yardstick_erase(a, a_length, result, room),
+            (Library::Yardstick, Service::LeastLevel) => yardstick_least_level(a, a_length),
+        }
+    }
+}
