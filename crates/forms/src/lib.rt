@@ -112,7 +112,7 @@ pub fn numbers_at(place: u32, text: &[u8], start: usize, count: usize, signed: b
     closed(place, text, first, second, third, end)
 }
 
-// Three numbers, as a header line has them. With a caller of its own each function is compiled into its loop: reading takes an eighth less.
+// Three numbers, as a header line has them. A function with one caller is compiled into its loop: with one for header and lines, reading took 1.4 times as long.
 pub fn three_numbers_at(place: u32, text: &[u8], start: usize) -> NumbersAt
     ensures { λ r. ⌜ r ≡ numbersTo place (start + length (lineIn (drop start (now (text .entry))))) (numbersIn (fieldsBy false 3) (drop start (now (text .entry)))) ⌝ }
 {
