@@ -65,8 +65,8 @@ struct gowashiru_reply gowashiru_least_level(const uint8_t *circuit, size_t circ
 /*
  * What is left to the caller: each pointer with its length is memory that may be read during the call, and out memory that
  * may be read and written; no other thread writes to an input, or reads or writes out, during the call; out overlaps no input. With
- * length 0 a pointer is not followed and may be NULL. A call needs stack: at most 36,120 bytes were measured on x86-64 (check;
- * erase 32,504, plan 31,064, least level 15,656), so give a thread 128 KiB.
+ * length 0 a pointer is not followed and may be NULL. A call needs stack: at most 36,152 bytes were measured on x86-64 (check;
+ * erase 32,544, plan 31,104, least level 15,688), so give a thread 128 KiB.
  */
 
 #ifdef __cplusplus
