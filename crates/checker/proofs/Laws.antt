@@ -2,43 +2,38 @@
 use Prim.Native.Nat.{ℕ, _≤_}
 use native.Mathlib.Omega.{arith}
 use mathlib.Core.List.{List}
-use mathlib.Core.Path.{_≡_, sym, ap, _∙_}
+use mathlib.Core.Path.{_≡_, ap, _∙_}
 use borrow.Author.Needs.{needs}
-use lib.Dec.{leb→le}
-use lib.ListN.{length, length-map}
 use Rattle.fields.specs.Pieces.{Bytes}
-use Rattle.model.specs.declared.Grammar.{Grammar}
 use Rattle.model.specs.declared.Grammar.the-variants.{Circuit}
 use Rattle.model.specs.declared.Answer.{Answer}
 use Rattle.model.specs.declared.Answer.the-variants.{Refused}
 use Rattle.model.specs.declared.Header.{Header}
-use Rattle.text.specs.Tables.{TableFormed, fileOf}
-use Rattle.model.specs.Files.{File, limit}
+use Rattle.text.specs.Tables.{fileOf}
+use Rattle.model.specs.Files.{File}
 use Rattle.model.specs.Services.{erase, eraseFile}
 use Rattle.model.specs.Answers.{check}
 use Rattle.text.specs.Files.{readText, circuitContext, scheduleContext, eraseContext, fileText}
-use Rattle.tables.specs.Records.{lineOf, linesHeld, held}
+use Rattle.tables.specs.Records.{linesHeld, held}
 use Rattle.tables.proofs.Records.{still-long}
 use Rattle.reader.specs.declared.FileRead.{FileRead}
 use Rattle.reader.specs.declared.FileRead.the-variants as Read
-use Rattle.reader.specs.Reads.{readingOf}
-use Rattle.reader.proofs.Answers.{read-refused, read-file, few-read, circuit-formed, schedule-formed}
-use Rattle.text.proofs.Tables.{limit-most}
+use Rattle.reader.specs.Reads.{readingOf, Filled}
+use Rattle.reader.proofs.Answers.{read-refused, read-file, few-read, circuit-formed, schedule-formed, erasing-formed}
 use Rattle.erasing.specs.declared.Compared.{Compared}
 use Rattle.erasing.specs.declared.Compared.the-variants.{Same, Differs}
 use Rattle.erasing.specs.Comparing.{afterCompared}
+use Rattle.erasing.specs.Lines.{IsSchedule}
 use Rattle.services.specs.declared.Reply.{Reply}
 use Rattle.services.specs.Outcomes.{Outcome, writes, refuses, replyOf, Replied}
 use Rattle.services.specs.Calls.{answered, onceRead, checkOutcome, eraseOutcome}
 use Rattle.services.proofs.Steps.{once-read, once-refused, replied-as, refusal-replied}
 
 -- ---- records
-module _ (g : Grammar) (h : Header) (records : List (List ℕ)) (count : ℕ) (f : TableFormed g (held h records count)) where
-  pub few-lines : count ≤ 1792
-  few-lines = omega (arith, leb→le count (limit g) (f .few), limit-most g)
-
-  pub all-long : length records ≡ 1792
-  all-long = sym (length-map records lineOf) ∙ f .room
+pub is-schedule :
+    (text : Bytes) (r : FileRead) (records : List (List ℕ)) (h : Header) (count : ℕ) → r ≡ Read.Table h count →
+    readingOf r records ≡ readText eraseContext text → Filled 1792 r records → IsSchedule records count
+is-schedule text r records h count e q f = record { header = h; formed = erasing-formed text r records h count e q f }
 
 -- ---- the verdict
 module _ (d : Compared) (rules verdict : Answer) (q : afterCompared d rules ≡ verdict) where
@@ -79,41 +74,25 @@ module _
         ∙ outcome-is)
 
 -- ---- erasing
-module _ (schedule out : Bytes) (r : Reply) (file : FileRead) (records : List (List ℕ)) (q : readingOf file records ≡ readText eraseContext schedule) where
-  pub erase-unread : (n p : ℕ) → file ≡ Read.Refused n p → r ≡ replyOf (refuses n 1 p) → Replied (eraseOutcome schedule) out r out
-  erase-unread n p is e =
+module _ (schedule : Bytes) (file : FileRead) (records : List (List ℕ)) (q : readingOf file records ≡ readText eraseContext schedule) where
+  pub erase-unread : (out : Bytes) (r : Reply) (n p : ℕ) → file ≡ Read.Refused n p → r ≡ replyOf (refuses n 1 p) → Replied (eraseOutcome schedule) out r out
+  erase-unread out r n p is e =
       replied-as
       (once-refused 1 (λ f. writes (fileText Circuit (eraseFile f))) n p (read-refused eraseContext schedule file records q n p is))
       (refusal-replied n 1 p out r e)
 
-  pub erased :
-      (h : Header) (count : ℕ) → file ≡ Read.Table h count → (erasure : List (List ℕ)) (kept : ℕ) (after : Bytes) →
-      linesHeld erasure kept ≡ erase (linesHeld records count) → Replied (writes (fileText Circuit (fileOf (held h erasure kept)))) out r after →
-      Replied (eraseOutcome schedule) out r after
-  erased h count is erasure kept after e a =
+  pub erasure-text :
+      (h : Header) (count : ℕ) → file ≡ Read.Table h count → (erasure : List (List ℕ)) (kept : ℕ) → linesHeld erasure kept ≡ erase (linesHeld records count) →
+      writes (fileText Circuit (fileOf (held h erasure kept))) ≡ eraseOutcome schedule
+  erasure-text h count is erasure kept e =
       let same : fileOf (held h erasure kept) ≡ eraseFile (fileOf (held h records count)) = (λ i. record { header = h; lines = e i }) in
-      replied-as
-      (ap (λ (f : File). writes (fileText Circuit f)) same
-      ∙ once-read 1 (λ f. writes (fileText Circuit (eraseFile f))) (fileOf (held h records count)) (read-file eraseContext schedule file records q h count is))
-      a
+      ap (λ (f : File). writes (fileText Circuit f)) same
+      ∙ once-read 1 (λ f. writes (fileText Circuit (eraseFile f))) (fileOf (held h records count)) (read-file eraseContext schedule file records q h count is)
 
 pub few-kept : (count kept : ℕ) → kept ≤ count → count ≤ 1792 → kept ≤ 1792
 few-kept count kept a b = omega arith
 
-pub ruleset steps = (
-  needs,
-  still-long,
-  all-long,
-  few-read,
-  circuit-formed,
-  schedule-formed,
-  by-rules,
-  by-difference,
-  few-lines,
-  circuit-unread,
-  schedule-unread,
-  both-read,
-  erase-unread,
-  erased,
-  few-kept,
-)
+-- what is asked on the way, and what is returned
+pub ruleset step-needs = (needs, still-long, is-schedule, few-read, circuit-formed, schedule-formed, few-kept)
+
+pub ruleset step-returns = (by-rules, by-difference, circuit-unread, schedule-unread, both-read, erase-unread, erasure-text)

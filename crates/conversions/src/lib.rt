@@ -9,7 +9,7 @@ ghost use lib.Signed.{_≤ℤ_};
 ghost use Rattle.ints.specs.Parts.{positive};
 ghost use Rattle.model.specs.declared.Line.the-variants.{Ms, Us, Rs};
 ghost use Rattle.model.specs.Plan.{emit, unlessZero, switches, convert};
-ghost use Rattle.tables.specs.Records.{levelOf, linesHeld};
+ghost use Rattle.tables.specs.Records.{linesHeld};
 ghost use Rattle.conversions.specs.Drafts.{draftOf, Room, Wrote};
 ghost use Rattle.conversions.specs.Operands.{supplied, Reaches};
 
@@ -30,7 +30,6 @@ pub struct Operand {
 // One line more; its value is named.
 pub fn put(schedule: &mut [Record], count: usize, line: Line) -> Drafted
     requires { ⌜ Room (now schedule) count 1 ⌝ }
-    requires { ⌜ levelOf line ≤ 65535 ⌝ }
     ensures { λ r. ⌜ Wrote (emit (linesHeld (now (schedule .entry)) count) line) (count + 1) r (now (schedule .exit)) ⌝ }
 {
     schedule[count] = tables::record_of(line);
@@ -133,7 +132,7 @@ pub fn put_operand(
             Line::Enc {
                 of: operand.number,
                 scale: scale as u16,
-                level: level,
+                level: level as u16,
             },
         );
     }

@@ -9,32 +9,31 @@ use mathlib.Core.List.{List, [], _∷_}
 use mathlib.Core.Logic.{⊎-elim}
 use borrow.Author.Needs.{needs}
 use borrow.Author.Tests.{not-true, not-false}
-use lib.ListN.{length, getD, take, drop, set, replicate}
+use lib.ListN.{length, getD, drop, set, replicate}
 use lib.Seq.{drop-drop}
 use Rattle.model.specs.declared.Header.{Header}
+use Rattle.model.specs.declared.Grammar.the-variants.{Circuit, Schedule}
 use Rattle.model.specs.declared.Line.{Line}
 use Rattle.model.specs.declared.Line.the-variants.{Free}
 use Rattle.model.specs.declared.Answer.{Answer}
 use Rattle.model.specs.declared.Answer.the-variants.{Refused}
 use Rattle.rows.specs.Rows.{placeOf}
-use Rattle.model.specs.Services.{renumbered, erase}
+use Rattle.model.specs.Services.{erase}
 use Rattle.model.specs.Answers.{sameLine, sameHeader, compared, rulesAnswer, check}
 use Rattle.model.proofs.Tests.{below-or-not}
-use Rattle.text.specs.Tables.{fileOf}
-use Rattle.tables.specs.Records.{linesOf, linesHeld, held, isStruck}
-use Rattle.tables.specs.Operands.{firstOperand}
-use Rattle.tables.proofs.HeldLines.{records-long, next-line, no-line}
+use Rattle.text.specs.Tables.{TableFormed, fileOf}
+use Rattle.tables.specs.Records.{linesOf, linesHeld, held}
+use Rattle.tables.proofs.HeldLines.{formed-few, formed-long, records-long, next-line, no-line}
 use Rattle.erasing.specs.declared.Compared.{Compared}
 use Rattle.erasing.specs.declared.Compared.the-variants.{Differs}
 use Rattle.erasing.specs.Comparing.{afterCompared, beginWith}
-use Rattle.erasing.proofs.LineLaws.{level-kept}
-use Rattle.erasing.proofs.Walking.{Walking, restOf, walk-start, none-left, place-fits, line-there, so-far, walk-on, rest-kept, rest-struck}
+use Rattle.erasing.specs.declared.Erased.{Erased}
+use Rattle.erasing.specs.declared.Erased.the-variants.{Kept, Struck}
+use Rattle.erasing.specs.Lines.{erasedBy}
+use Rattle.erasing.proofs.Walking.{Walking, restOf, walk-start, none-left, place-fits, line-there, first-small, second-small, walk-on, rest-kept, rest-struck}
 
 -- ---- a circuit's next line
 module _ (circuit : List (List ℕ)) (size at : ℕ) (long : length circuit ≡ 1792) (few : size ≤ 1792) where
-  pub circuit-there : at < size → at < length circuit
-  circuit-there l = omega arith
-
   pub circuit-ends : (x : Line) → size ≤ at → false ≡ beginWith (drop at (linesHeld circuit size)) x
   circuit-ends x l = rw (no-line (linesOf circuit) size (records-long circuit long) few at l)
 
@@ -42,7 +41,7 @@ module _ (circuit : List (List ℕ)) (size at : ℕ) (long : length circuit ≡ 
       (x y : Line) (b : Bool) → at < size → y ≡ getD (linesOf circuit) at Free → b ≡ sameLine y x → b ≡ beginWith (drop at (linesHeld circuit size)) x
   circuit-goes-on x y b l is told = rw (next-line (linesOf circuit) size (records-long circuit long) few at l, ← is) told
 
-pub ruleset next-laws = (needs, circuit-there, circuit-ends, circuit-goes-on)
+pub ruleset next-laws = (needs, circuit-goes-on)
 
 -- one line of an erasure more
 compared-next :
@@ -71,17 +70,22 @@ module _ (circuit : List (List ℕ)) (size : ℕ) (schedule : List (List ℕ)) (
   ahead at ys rules = compared at (drop at (linesHeld circuit size)) ys rules
 
   pub compare-start :
-      length circuit ≡ 1792 → size ≤ 1792 → length schedule ≡ 1792 → count ≤ 1792 → Comparing (replicate 1792 0) 0 0
-  compare-start long few other-long other-few =
-      record { walk = walk-start schedule count other-long other-few; long = long; few = few; within = omega arith; left = λ rules. refl }
+      (header other : Header) → TableFormed Circuit (held header circuit size) → TableFormed Schedule (held other schedule count) → Comparing (replicate 1792 0) 0 0
+  compare-start header other formed other-formed =
+      record {
+        walk = walk-start schedule count (record { header = other; formed = other-formed });
+        long = formed-long Circuit header circuit size formed;
+        few = formed-few Circuit header circuit size formed;
+        within = omega arith;
+        left = λ rules. refl;
+      }
 
   module _ (origins : List ℕ) (at i : ℕ) (c : Comparing origins at i) where
-    -- a line that is struck
-    module _ (inside : i < count) (x : Line) (x-is : x ≡ getD (linesOf schedule) i Free) (b : Bool) (told : b ≡ isStruck (getD (linesOf schedule) i Free)) where
+    module _ (inside : i < count) (e : Erased) (told : e ≡ erasedBy origins (getD (linesOf schedule) i Free)) where
+      -- a line that is struck
       pub struck-passed :
-          b ≡ true → (o : ℕ) → o ≡ getD (take i origins) (firstOperand x) at → (origins′ : List ℕ) (at′ : ℕ) → origins′ ≡ set origins i o →
-          at′ ≡ at → Comparing origins′ at′ (i + 1)
-      struck-passed e o is origins′ at′ q n =
+          (o : ℕ) → e ≡ Struck o → (origins′ : List ℕ) (at′ : ℕ) → origins′ ≡ set origins i o → at′ ≡ at → Comparing origins′ at′ (i + 1)
+      struck-passed o is origins′ at′ q n =
           rw (q, n)
           (record {
             walk = walk-on schedule count origins at i (c .walk) inside o at (omega (arith, c .walk .fewer));
@@ -89,22 +93,19 @@ module _ (circuit : List (List ℕ)) (size : ℕ) (schedule : List (List ℕ)) (
             few = c .few;
             within = c .within;
             left = λ rules.
-                ap (λ (l : List Line). ahead at l rules)
-                (sym (rest-struck schedule count origins at i (c .walk) inside x x-is b told e o is))
-                ∙ c .left rules;
+                ap (λ (l : List Line). ahead at l rules) (sym (rest-struck schedule count origins at i (c .walk) inside e told o is)) ∙ c .left rules;
           })
 
       -- a line that stays
-      module _
-          (e : b ≡ false) (y : Line) (is : y ≡ renumbered (take i origins) at x) (r : Bool)
-          (tested : r ≡ beginWith (drop at (linesHeld circuit size)) y) where
-        next : (rules : Answer) →
-            cond r (compared (suc at) (drop 1 (drop at (linesHeld circuit size))) (restOf schedule count (set origins i at) (at + 1) (i + 1)) rules) (Refused 12 (placeOf at))
-            ≡ lineVerdict rules
+      module _ (y : Line) (is : e ≡ Kept y) (r : Bool) (tested : r ≡ beginWith (drop at (linesHeld circuit size)) y) where
+        abbrev onward : List Line
+        onward = restOf schedule count (set origins i at) (at + 1) (i + 1)
+
+        next : (rules : Answer) → cond r (compared (suc at) (drop 1 (drop at (linesHeld circuit size))) onward rules) (Refused 12 (placeOf at)) ≡ lineVerdict rules
         next rules =
-            rw (tested, is)
-            (sym (compared-next at (drop at (linesHeld circuit size)) (restOf schedule count (set origins i at) (at + 1) (i + 1)) (renumbered (take i origins) at x) rules)
-            ∙ ap (λ (l : List Line). ahead at l rules) (sym (rest-kept schedule count origins at i (c .walk) inside x x-is b told e))
+            rw tested
+            (sym (compared-next at (drop at (linesHeld circuit size)) onward y rules)
+            ∙ ap (λ (l : List Line). ahead at l rules) (sym (rest-kept schedule count origins at i (c .walk) inside e told y is))
             ∙ c .left rules)
 
         pub line-differs : r ≡ false → (answer : Compared) → answer ≡ Differs (placeOf at) → (rules : Answer) → afterCompared answer rules ≡ lineVerdict rules
@@ -157,10 +158,12 @@ pub ruleset compare-laws = (
   needs,
   not-true,
   not-false,
-  level-kept,
   place-fits,
   line-there,
-  so-far,
+  first-small,
+  second-small,
+  formed-few,
+  formed-long,
   compare-start,
   header-differs,
   by-lines,

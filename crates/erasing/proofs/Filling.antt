@@ -2,19 +2,19 @@
 use Prim.Native.Nat.{ℕ, _+_, _≤_, _<_}
 use native.Mathlib.Omega.{arith}
 use mathlib.Core.Path.{_≡_, refl, sym, ap, _∙_}
-use mathlib.Core.Bool.{Bool, true, false}
 use mathlib.Core.List.{List, _++_, append-assoc, append-nil}
 use borrow.Author.Needs.{needs}
-use lib.ListN.{length, getD, take, set, replicate, length-set}
+use lib.ListN.{length, getD, set, replicate, length-set}
 use Rattle.model.specs.declared.Line.{Line}
 use Rattle.model.specs.declared.Line.the-variants.{Free}
-use Rattle.model.specs.Services.{renumbered, erase}
-use Rattle.tables.specs.Records.{lineOf, linesOf, linesHeld, freeRecords, isStruck}
-use Rattle.tables.specs.Operands.{firstOperand}
+use Rattle.model.specs.Services.{erase}
+use Rattle.tables.specs.Records.{lineOf, linesOf, linesHeld, freeRecords}
 use Rattle.tables.proofs.Records.{free-long}
 use Rattle.tables.proofs.HeldLines.{stored-lines}
-use Rattle.erasing.proofs.LineLaws.{level-kept}
-use Rattle.erasing.proofs.Walking.{Walking, restOf, walk-start, none-left, few-kept, line-there, so-far, walk-on, rest-kept, rest-struck}
+use Rattle.erasing.specs.declared.Erased.{Erased}
+use Rattle.erasing.specs.declared.Erased.the-variants.{Kept, Struck}
+use Rattle.erasing.specs.Lines.{IsSchedule, erasedBy}
+use Rattle.erasing.proofs.Walking.{Walking, restOf, walk-start, none-left, few-kept, place-fits, line-there, first-small, second-small, walk-on, rest-kept, rest-struck}
 
 -- The loop's invariant: the records hold what erasing keeps of the schedule's first i lines, and with what it keeps of the rest that is
 -- the whole erasure.
@@ -28,9 +28,9 @@ pub as-many : (before after : List (List ℕ)) → before ≡ freeRecords → le
 as-many before after free room = room ∙ sym (free-long before free)
 
 pub start :
-    (schedule : List (List ℕ)) (count : ℕ) (erasure : List (List ℕ)) → length schedule ≡ 1792 → count ≤ 1792 → erasure ≡ freeRecords →
+    (schedule : List (List ℕ)) (count : ℕ) (erasure : List (List ℕ)) → IsSchedule schedule count → erasure ≡ freeRecords →
     Filling schedule count erasure (replicate 1792 0) 0 0
-start schedule count erasure long few free = record { walk = walk-start schedule count long few; room = free-long erasure free; left = refl }
+start schedule count erasure formed free = record { walk = walk-start schedule count formed; room = free-long erasure free; left = refl }
 
 module _
     (schedule : List (List ℕ)) (count : ℕ) (erasure : List (List ℕ)) (origins : List ℕ) (at i : ℕ)
@@ -40,34 +40,29 @@ module _
   all-erased end =
       sym (append-nil (linesHeld erasure at)) ∙ ap (λ (l : List Line). linesHeld erasure at ++ l) (sym (none-left schedule count origins at i (f .walk) end)) ∙ f .left
 
-  module _
-      (inside : i < count) (x : Line) (x-is : x ≡ getD (linesOf schedule) i Free) (b : Bool) (told : b ≡ isStruck (getD (linesOf schedule) i Free))
-      (erasure′ : List (List ℕ)) (origins′ : List ℕ) (at′ : ℕ) where
+  module _ (inside : i < count) (r : Erased) (told : r ≡ erasedBy origins (getD (linesOf schedule) i Free)) (erasure′ : List (List ℕ)) (origins′ : List ℕ) (at′ : ℕ) where
     pub after-struck :
-        b ≡ true → (o : ℕ) → o ≡ getD (take i origins) (firstOperand x) at → erasure′ ≡ erasure → origins′ ≡ set origins i o → at′ ≡ at →
-        Filling schedule count erasure′ origins′ at′ (i + 1)
-    after-struck e o is p q n =
+        (o : ℕ) → r ≡ Struck o → erasure′ ≡ erasure → origins′ ≡ set origins i o → at′ ≡ at → Filling schedule count erasure′ origins′ at′ (i + 1)
+    after-struck o e p q n =
         rw (p, q, n)
         (record {
           walk = walk-on schedule count origins at i (f .walk) inside o at (omega (arith, f .walk .fewer));
           room = f .room;
           left =
-              ap (λ (l : List Line). linesHeld erasure at ++ l)
-              (sym (rest-struck schedule count origins at i (f .walk) inside x x-is b told e o is))
-              ∙ f .left;
+              ap (λ (l : List Line). linesHeld erasure at ++ l) (sym (rest-struck schedule count origins at i (f .walk) inside r told o e)) ∙ f .left;
         })
 
     pub after-kept :
-        b ≡ false → (y : Line) → y ≡ renumbered (take i origins) at x → (m : List ℕ) → lineOf m ≡ y → erasure′ ≡ set erasure at m →
-        origins′ ≡ set origins i at → at′ ≡ at + 1 → Filling schedule count erasure′ origins′ at′ (i + 1)
-    after-kept e y is m holds p q n =
+        (y : Line) → r ≡ Kept y → (m : List ℕ) → lineOf m ≡ y → erasure′ ≡ set erasure at m → origins′ ≡ set origins i at → at′ ≡ at + 1 →
+        Filling schedule count erasure′ origins′ at′ (i + 1)
+    after-kept y e m holds p q n =
         rw (p, q, n)
         (record {
           walk = walk-on schedule count origins at i (f .walk) inside at (at + 1) (omega (arith, f .walk .fewer));
           room = length-set erasure at m ∙ f .room;
           left =
-              rw (stored-lines erasure at m y (omega (arith, f .walk .fewer, f .walk .few, f .room)) holds, append-assoc, is)
-              (ap (λ (l : List Line). linesHeld erasure at ++ l) (sym (rest-kept schedule count origins at i (f .walk) inside x x-is b told e)) ∙ f .left);
+              rw (stored-lines erasure at m y (omega (arith, f .walk .fewer, f .walk .few, f .room)) holds, append-assoc)
+              (ap (λ (l : List Line). linesHeld erasure at ++ l) (sym (rest-kept schedule count origins at i (f .walk) inside r told y e)) ∙ f .left);
         })
 
-pub ruleset filling-laws = (needs, level-kept, as-many, start, all-erased, few-kept, line-there, so-far)
+pub ruleset filling-laws = (needs, as-many, start, all-erased, few-kept, place-fits, line-there, first-small, second-small)

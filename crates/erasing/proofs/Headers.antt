@@ -1,5 +1,5 @@
 -- Two headers, number by number. Assumes nothing.
-use mathlib.Core.Path.{_≡_, refl}
+use mathlib.Core.Path.{_≡_, refl, _∙_}
 use mathlib.Core.Bool.{Bool, true, false, _&&_}
 use borrow.Author.Needs.{needs}
 use borrow.Author.Tests.{eq-eqb, ne-eqb}
@@ -19,7 +19,7 @@ module _ (h k : Header) where
     pub other-waterline : (h .waterline ≡ k .waterline → ⊥) → false ≡ sameHeader h k
     other-waterline f = rw (eq-eqb (h .factor) (k .factor) e, ne-eqb (h .waterline) (k .waterline) f)
 
-    pub by-top : h .waterline ≡ k .waterline → eqb (h .top) (k .top) ≡ sameHeader h k
-    by-top f = rw (eq-eqb (h .factor) (k .factor) e, eq-eqb (h .waterline) (k .waterline) f) (and-true (eqb (h .top) (k .top)))
+    pub by-top : h .waterline ≡ k .waterline → (b : Bool) → b ≡ eqb (h .top) (k .top) → b ≡ sameHeader h k
+    by-top f b told = told ∙ rw (eq-eqb (h .factor) (k .factor) e, eq-eqb (h .waterline) (k .waterline) f) (and-true (eqb (h .top) (k .top)))
 
 pub ruleset header-laws = (needs, other-factor, other-waterline, by-top)

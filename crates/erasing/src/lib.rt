@@ -3,49 +3,46 @@ use model::Header;
 use model::Line;
 use tables::Record;
 ghost use mathlib.Core.Path.{_≡_};
-ghost use Prim.Native.Nat.{_≤_};
+ghost use Prim.Native.Nat.{_≤_, _<_};
 ghost use lib.ListN.{length, getD, drop};
 ghost use Rattle.rows.specs.Rows.{placeOf};
-ghost use Rattle.model.specs.Services.{renumbered, erase};
+ghost use Rattle.model.specs.declared.Line.the-variants.{Free};
+ghost use Rattle.model.specs.declared.Grammar.the-variants.{Circuit, Schedule};
+ghost use Rattle.model.specs.Services.{erase};
 ghost use Rattle.model.specs.Answers.{sameHeader, rulesAnswer, check};
-ghost use Rattle.text.specs.Tables.{fileOf};
-ghost use Rattle.tables.specs.Operands.{firstOperand};
-ghost use Rattle.tables.specs.Records.{levelOf, linesHeld, freeRecords, held};
+ghost use Rattle.text.specs.Tables.{TableFormed, fileOf};
+ghost use Rattle.tables.specs.Operands.{firstOperand, secondOperand};
+ghost use Rattle.tables.specs.Records.{linesOf, linesHeld, freeRecords, held};
 ghost use Rattle.erasing.specs.Comparing.{afterCompared, beginWith};
+ghost use Rattle.erasing.specs.Lines.{IsSchedule, erasedBy};
 
-// The kept line that a line so far is or was made from, and the count of kept lines where there is no such line.
-fn origin(origins: &[u16], of: u16, count: u16) -> u16
-    ensures { λ r. ⌜ r ≡ getD (now (origins .entry)) of count ⌝ }
-{
-    let at = of as usize;
-    if at < origins.len() {
-        return origins[at];
-    }
-    count
+// What erasing makes of a line: it is kept, its operands counted anew, or it is struck and was made from this kept line.
+enum Erased {
+    Kept(Line),
+    Struck(u16),
 }
 
-// The kept line that a struck line was made from.
-fn struck_origin(origins: &[u16], count: u16, line: Line) -> u16
-    ensures { λ r. ⌜ r ≡ getD (now (origins .entry)) (firstOperand line) count ⌝ }
+// Line i of a schedule; the origins are the kept lines that the lines before it are or were made from.
+fn erase_line(origins: &[u16; 1792], schedule: &[Record], i: usize) -> Erased
+    requires { ⌜ i < length (now schedule) ⌝ }
+    requires { ⌜ firstOperand (getD (linesOf (now schedule)) i Free) < 1792 ⌝ }
+    requires { ⌜ secondOperand (getD (linesOf (now schedule)) i Free) < 1792 ⌝ }
+    ensures { λ r. ⌜ r ≡ erasedBy (now (origins .entry)) (getD (linesOf (now (schedule .entry))) i Free) ⌝ }
 {
-    origin(origins, tables::first_operand(line), count)
-}
-
-// A kept line, its operands counted anew.
-fn renumber(origins: &[u16], count: u16, line: Line) -> Line
-    ensures { λ r. ⌜ r ≡ renumbered (now (origins .entry)) count line ⌝ }
-{
+    let line = tables::line_at(schedule, i);
     let a = tables::first_operand(line);
     let b = tables::second_operand(line);
-    let first = origin(origins, a, count);
-    let second = origin(origins, b, count);
-    tables::with_operands(line, first, second)
+    let first = origins[a as usize];
+    let second = origins[b as usize];
+    if tables::struck_at(schedule, i) {
+        return Erased::Struck(first);
+    }
+    Erased::Kept(tables::with_operands(line, first, second))
 }
 
 // The lines that erasing keeps, renumbered, into records that are free, and how many they are.
 pub fn erase_table(schedule: &[Record], count: usize, erasure: &mut [Record]) -> usize
-    requires { ⌜ length (now schedule) ≡ 1792 ⌝ }
-    requires { ⌜ count ≤ 1792 ⌝ }
+    requires { ⌜ IsSchedule (now schedule) count ⌝ }
     requires { ⌜ now erasure ≡ freeRecords ⌝ }
     ensures { λ r. ⌜ linesHeld (now (erasure .exit)) r ≡ erase (linesHeld (now (schedule .entry)) count) ⌝ }
     ensures few { λ r. ⌜ r ≤ count ⌝ }
@@ -54,15 +51,15 @@ pub fn erase_table(schedule: &[Record], count: usize, erasure: &mut [Record]) ->
     let mut at: usize = 0;
     let mut i: usize = 0;
     while i < count {
-        let line = tables::line_at(schedule, i);
-        let kept = at as u16;
-        if tables::struck_at(schedule, i) {
-            origins[i] = struck_origin(&origins[..i], kept, line);
-        } else {
-            let renumbered = renumber(&origins[..i], kept, line);
-            erasure[at] = tables::record_of(renumbered);
-            origins[i] = kept;
-            at += 1;
+        match erase_line(&origins, schedule, i) {
+            Erased::Struck(origin) => {
+                origins[i] = origin;
+            }
+            Erased::Kept(line) => {
+                erasure[at] = tables::record_of(line);
+                origins[i] = at as u16;
+                at += 1;
+            }
         }
         i += 1;
     }
@@ -93,7 +90,6 @@ fn same_header(one: Header, other: Header) -> bool
 fn goes_on_with(circuit: &[Record], size: usize, at: usize, line: Line) -> bool
     requires { ⌜ length (now circuit) ≡ 1792 ⌝ }
     requires { ⌜ size ≤ 1792 ⌝ }
-    requires { ⌜ levelOf line ≤ 65535 ⌝ }
     ensures { λ r. ⌜ r ≡ beginWith (drop at (linesHeld (now (circuit .entry)) size)) line ⌝ }
 {
     if size <= at {
@@ -122,10 +118,8 @@ pub fn compare_erasure<'a>(
     schedule: &'a [Record],
     count: usize,
 ) -> Compared
-    requires { ⌜ length (now circuit) ≡ 1792 ⌝ }
-    requires { ⌜ size ≤ 1792 ⌝ }
-    requires { ⌜ length (now schedule) ≡ 1792 ⌝ }
-    requires { ⌜ count ≤ 1792 ⌝ }
+    requires { ⌜ TableFormed Circuit (held header (now circuit) size) ⌝ }
+    requires { ⌜ TableFormed Schedule (held other (now schedule) count) ⌝ }
     ensures { λ r. ⌜ afterCompared r (rulesAnswer other (linesHeld (now (schedule .entry)) count)) ≡ check (fileOf (held header (now (circuit .entry)) size)) (fileOf (held other (now (schedule .entry)) count)) ⌝ }
 {
     if !same_header(header, other) {
@@ -135,17 +129,17 @@ pub fn compare_erasure<'a>(
     let mut at: usize = 0;
     let mut i: usize = 0;
     while i < count {
-        let line = tables::line_at(schedule, i);
-        let kept = at as u16;
-        if tables::struck_at(schedule, i) {
-            origins[i] = struck_origin(&origins[..i], kept, line);
-        } else {
-            let renumbered = renumber(&origins[..i], kept, line);
-            if !goes_on_with(circuit, size, at, renumbered) {
-                return differs_at(at);
+        match erase_line(&origins, schedule, i) {
+            Erased::Struck(origin) => {
+                origins[i] = origin;
             }
-            origins[i] = kept;
-            at += 1;
+            Erased::Kept(line) => {
+                if !goes_on_with(circuit, size, at, line) {
+                    return differs_at(at);
+                }
+                origins[i] = at as u16;
+                at += 1;
+            }
         }
         i += 1;
     }

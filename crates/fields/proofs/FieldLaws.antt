@@ -3,7 +3,6 @@
 use Prim.Native.Nat.{ℕ, zero, suc, _+_, _-_, _^_, _≤_, _<_}
 use native.Mathlib.Decide.{decLt}
 use native.Mathlib.Nat.{pow-le-pow-right}
-use native.Mathlib.Numerals.{add-one}
 use native.Mathlib.Omega.{arith}
 use mathlib.Core.Bool.{Bool, true, false}
 use mathlib.Core.Path.{_≡_, refl, sym, ap, _∙_, subst}
@@ -20,7 +19,7 @@ use mir.ValLaws.{toZ-pos, toZ-ofZ}
 use Rattle.fields.specs.Pieces.{Bytes}
 use Rattle.fields.specs.Numbers.{digitsOf, numberOf, afterMinus, withoutMinus, amountOf}
 use Rattle.fields.specs.Digits.{digitsIn, amountIn, allDigits, allAmount, DigitsLeft}
-use Rattle.fields.specs.Places.{begins, EndFound, numberTo, amountTo, numberAt, amountAt, fieldAt}
+use Rattle.fields.specs.Places.{begins, EndFound, numberAt, amountAt, fieldAt}
 use Rattle.fields.specs.declared.Field.{Field}
 use Rattle.fields.specs.declared.Field.the-variants.{Number, NoNumber}
 use Rattle.fields.specs.declared.Amount.{Amount}
@@ -150,7 +149,10 @@ module _ (f : Bytes) where
 pub ruleset number-laws = (needs, number-none, number-many, digits-left, number-alone, number-more, number-zero-first)
 
 pub ruleset amount-laws =
-    (needs, number-fits, negative-fits, amount-none, amount-many, rest-digits, plain-digits, minus-other, minus-nothing, minus-number, plain-other, plain-number)
+    (needs, number-fits, negative-fits, amount-none, amount-many, rest-digits, plain-digits, minus-other, minus-number, plain-other, plain-number)
+
+-- by itself: where it does not fit, every way is tried
+pub ruleset minus-laws = (needs, minus-nothing)
 
 -- ---- from a place to the first byte that is no digit
 pub begins-is : (x : ℕ) (t : Bytes) → begins x t ≡ true → t ≡ x ∷ drop 1 t

@@ -5,14 +5,14 @@ use native.Mathlib.Omega.{arith}
 use mathlib.Core.Path.{_≡_, refl, sym, ap, _∙_}
 use mathlib.Core.List.{[], _∷_}
 use borrow.Author.Needs.{needs}
-use lib.Dec.{T, lit<}
+use lib.Dec.{lit<}
 use lib.ListN.{length, getD, take, drop, length-drop}
 use lib.Seq.{take-all, getD-drop, drop-drop}
 use mir.Syntax.{w64}
 use mir.Val.{Fits}
 use Rattle.fields.specs.Pieces.{Bytes}
 use Rattle.fields.specs.Numbers.{digitsOf}
-use Rattle.fields.specs.Digits.{allDigits, DigitsLeft}
+use Rattle.fields.specs.Digits.{DigitsLeft}
 use Rattle.fields.specs.declared.Field.the-variants.{Number}
 use Rattle.fields.proofs.DigitLaws.{Digit, digits-next, room}
 use Rattle.fields.proofs.SpanLaws.{all-first, all-rest}

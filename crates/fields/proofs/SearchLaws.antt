@@ -56,30 +56,32 @@ module _ (s : Bytes) (at : ℕ) where
     stops : digitsIn (drop i s) ≡ 0 → EndFound at (digitsIn (drop at s)) i
     stops none = record { from = p .from; most = omega arith; whole = λ short. omega arith }
 
-    pub digits-low : i < length s → getD s i 0 < 48 → EndFound at (digitsIn (drop at s)) i
-    digits-low h l = stops (rw (drop-cons s i 0 h) (digits-in-low (getD s i 0) (drop (suc i) s) l))
+    module _ (limit : ℕ) (l : LookedTo s at limit) where
+      module _ (before : i < limit) where
+        inside : i < length s
+        inside = omega (arith, l .within)
 
-    pub digits-high : (most : ℕ) → i < length s → most < getD s i 0 → 57 ≤ most → EndFound at (digitsIn (drop at s)) i
-    digits-high most h l above = stops (rw (drop-cons s i 0 h) (digits-in-high (getD s i 0) (drop (suc i) s) (omega arith)))
+        pub digits-low : getD s i 0 < 48 → EndFound at (digitsIn (drop at s)) i
+        digits-low u = stops (rw (drop-cons s i 0 inside) (digits-in-low (getD s i 0) (drop (suc i) s) u))
 
-    pub digits-pass : i < length s → 48 ≤ getD s i 0 → getD s i 0 ≤ 57 → DigitsTo s at (i + 1)
-    digits-pass h low high =
-        let more : digitsIn (drop i s) ≡ suc (digitsIn (drop (suc i) s)) =
-        rw (drop-cons s i 0 h) (digits-in-more (getD s i 0) (drop (suc i) s) (record { low = low; high = high })) in
-        let before = p .from in
-        rw (add-one i) (record { from = omega arith; within = omega arith; rest = omega arith })
+        pub digits-high : (most : ℕ) → most < getD s i 0 → 57 ≤ most → EndFound at (digitsIn (drop at s)) i
+        digits-high most u above = stops (rw (drop-cons s i 0 inside) (digits-in-high (getD s i 0) (drop (suc i) s) (omega arith)))
 
-    -- the text's end, or more digits than any number has
-    pub digits-last : (limit : ℕ) → LookedTo s at limit → limit ≤ i → EndFound at (digitsIn (drop at s)) i
-    unfolding digitsIn
-    digits-last limit l h =
-        elim (decLt i (length s)) [
-          | yes u ↦ record { from = p .from; most = omega (arith, p .rest); whole = λ short. absurd (omega (arith, l .far (omega arith))) }
-          | no u ↦ stops (let past : length s ≤ i = omega arith in rw (drop-of-length-le s past))
-        ]
+        pub digits-pass : 48 ≤ getD s i 0 → getD s i 0 ≤ 57 → DigitsTo s at (i + 1)
+        digits-pass low high =
+            let more : digitsIn (drop i s) ≡ suc (digitsIn (drop (suc i) s)) =
+            rw (drop-cons s i 0 inside) (digits-in-more (getD s i 0) (drop (suc i) s) (record { low = low; high = high })) in
+            let from = p .from in
+            rw (add-one i) (record { from = omega arith; within = omega (arith, inside); rest = omega arith })
 
-    pub digits-within : (limit : ℕ) → LookedTo s at limit → i < limit → i < length s
-    digits-within limit l h = omega (arith, l .within)
+      -- the text's end, or more digits than any number has
+      pub digits-last : limit ≤ i → EndFound at (digitsIn (drop at s)) i
+      unfolding digitsIn
+      digits-last h =
+          elim (decLt i (length s)) [
+            | yes u ↦ record { from = p .from; most = omega (arith, p .rest); whole = λ short. absurd (omega (arith, l .far (omega arith))) }
+            | no u ↦ stops (let past : length s ≤ i = omega arith in rw (drop-of-length-le s past))
+          ]
 
   pub looked-to-end : length s - at < 12 → at ≤ length s → LookedTo s at (length s)
   looked-to-end u h = record { from = h; within = omega arith; far = λ v. absurd (omega arith) }
@@ -89,4 +91,4 @@ module _ (s : Bytes) (at : ℕ) where
 
 pub ruleset byte-laws = (needs, begin, found, pass, nowhere, is-there, is-past)
 
-pub ruleset digits-laws = (needs, digits-begin, digits-low, digits-high, digits-pass, digits-last, digits-within, looked-to-end, looked-far)
+pub ruleset digits-laws = (needs, digits-begin, digits-low, digits-high, digits-pass, digits-last, looked-to-end, looked-far)

@@ -1,30 +1,30 @@
 -- A line as the code goes along it: its first field, and the numbers of the fields after it. Assumes nothing.
-use Prim.Native.Nat.{ℕ, zero, suc, _+_, _≤_, _<_}
+use Prim.Native.Nat.{ℕ, _+_, _≤_}
 use native.Mathlib.Decide.{ℕ-discrete}
 use native.Mathlib.Omega.{arith}
-use mathlib.Core.Bool.{Bool, true, false, cond, not, _&&_, _||_}
-use mathlib.Core.Path.{_≡_, refl, sym, ap, ap₂, _∙_}
+use mathlib.Core.Bool.{Bool, true, false, cond}
+use mathlib.Core.Path.{_≡_, refl, sym, ap, _∙_}
 use mathlib.Core.List.{List, [], _∷_, _++_}
 use mathlib.Core.Option.{Option, none, some}
-use borrow.Author.Tests.{eq-eqb, ne-eqb}
-use lib.Dec.{T, eqb}
-use lib.IntN.{ℤ, pos}
+use borrow.Author.Tests.{ne-eqb}
+use lib.Dec.{eqb}
+use lib.IntN.{ℤ}
 use lib.ListN.{length, take, drop}
-use Rattle.fields.specs.Pieces.{Bytes, tab, lineFeed, split, sameBytes, inFront}
-use Rattle.fields.specs.Numbers.{isDigit, numberOf, amountOf, amountText}
+use Rattle.fields.specs.Pieces.{Bytes, tab, split, inFront}
+use Rattle.fields.specs.Numbers.{isDigit, numberOf, amountOf}
 use Rattle.fields.specs.Digits.{digitsIn, amountIn}
 use Rattle.fields.specs.declared.Field.{Field}
 use Rattle.fields.specs.declared.Field.the-variants.{Number, NoNumber}
 use Rattle.fields.specs.declared.Amount.{Amount}
 use Rattle.fields.specs.declared.Amount.the-variants.{By, NoAmount}
 use Rattle.fields.proofs.Each as E
-use Rattle.fields.proofs.Each.{Each, each-rest}
+use Rattle.fields.proofs.Each.{Each}
 use Rattle.fields.proofs.PieceLaws.{split-some}
 use Rattle.fields.proofs.DigitLaws.{Digit}
-use Rattle.fields.proofs.SpanLaws.{DigitOr, digit, other, digit-or, is-digit, digits-in-more, digits-in-other, digit-by-digit, amount-in-minus, amount-in-plain}
-use Rattle.fields.proofs.NumberLaws.{decimal-number, decimal-digits, amount-read, AmountRead, as-number, after-minus, text-amount}
-use Rattle.rows.specs.Fields.{Holds, operand, ranged, upToTop, amount, natural, signed, readField, both, readFields}
-use Rattle.forms.specs.Along.{lineIn, isClosed, afterLine, endsField, fieldIn, isPlain, numbersIn}
+use Rattle.fields.proofs.SpanLaws.{DigitOr, digit, other, digit-or, is-digit, digits-in-more, digits-in-other, digit-by-digit, amount-in-plain}
+use Rattle.fields.proofs.NumberLaws.{decimal-number, decimal-digits, amount-read, AmountRead, as-number, after-minus}
+use Rattle.rows.specs.Fields.{Holds, operand, amount, natural, signed, readField, both, readFields}
+use Rattle.forms.specs.Along.{lineIn, isClosed, numbersIn}
 
 -- ---- a byte is a line feed, a tab or another
 pub data ByteIs (b : ℕ) : Type 0 where

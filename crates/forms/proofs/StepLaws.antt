@@ -1,6 +1,7 @@
 -- The fields of a line, one after another: what one leaves to be read, and what each return of the code says. Assumes nothing.
-use Prim.Native.Nat.{ℕ, zero, suc, _+_, _≤_}
+use Prim.Native.Nat.{ℕ, zero, suc, _+_, _≤_, _<_}
 use native.Mathlib.Decide.{ℕ-discrete}
+use native.Mathlib.Numerals.{add-one}
 use native.Mathlib.Omega.{arith}
 use mathlib.Core.Bool.{Bool, true, false, cond, _&&_}
 use mathlib.Core.Path.{_≡_, refl, sym, ap, _∙_}
@@ -10,11 +11,10 @@ use borrow.Author.Needs.{needs}
 use borrow.Author.Tests.{not-true, not-false, ne-eqb}
 use lib.Dec.{eqb}
 use lib.IntN.{ℤ, pos}
-use lib.ListN.{length, take, drop, getD, length-drop}
-use lib.Seq.{drop-drop}
+use lib.ListN.{length, take, drop, getD, set, length-drop, length-set}
+use lib.Seq.{append-snoc, drop-drop, take-suc-set, getD-set-same, getD-set-other}
 use mir.Syntax.{w64}
-use mir.Val.{SFits, toZ, ofZ}
-use mir.ValLaws.{toZ-ofZ}
+use mir.Val.{toZ, ofZ}
 use Rattle.fields.specs.Pieces.{Bytes, tab, lineFeed, split}
 use Rattle.fields.specs.Numbers.{numberOf, amountOf}
 use Rattle.fields.specs.Digits.{digitsIn, amountIn}
@@ -30,9 +30,8 @@ use Rattle.fields.proofs.NumberLaws.{number-below, amount-below}
 use Rattle.fields.proofs.FieldLaws.{begins-is}
 use Rattle.fields.proofs.PieceLaws.{split-some}
 use Rattle.rows.specs.Fields.{Holds, operand, amount, natural, signed, both, readFields}
-use Rattle.forms.specs.declared.NumbersAt.{NumbersAt}
 use Rattle.forms.specs.declared.NumbersAt.the-variants.{Numbers, NotOfForm}
-use Rattle.forms.specs.Along.{lineIn, isClosed, numbersIn, fieldAfter, fieldsBy, closedTo, numbersTo}
+use Rattle.forms.specs.Along.{lineIn, isClosed, numbersIn, fieldAfter, signedAt, fieldsBy, numbersTo}
 use Rattle.forms.proofs.AlongLaws.{number-field, amount-field}
 use Rattle.forms.proofs.TextLaws.{Small, small-held}
 
@@ -192,152 +191,136 @@ module _ (b : Bool) (s : Bytes) (at : ℕ) (r : FieldAt) (q : r ≡ fieldAfter b
       go false h v = no-tab (holds b) fs (drop at s) h
       go true h v = ap (numbersIn (holds b ∷ fs)) (tab-here s at h) ∙ field-left b fs s (at + 1) ∙ ap (left-by fs s) v
 
--- ---- the line's end
-module _ (place : ℕ) (s : Bytes) (x y z : ℤ) (end : ℕ) (t : Bool) (q : t ≡ begins lineFeed (drop end s)) where
-  pub not-closed : t ≡ false → NotOfForm 1 place ≡ closedTo place x y z end (drop end s)
-  not-closed h = rw (← q, h)
+-- ---- which field may have a sign
+module _ (b : Bool) (i : ℕ) where
+  pub sign-second : i ≡ 1 → b ≡ signedAt b i
+  sign-second e = rw e
 
-  pub is-closed : SFits w64 x → SFits w64 y → SFits w64 z → t ≡ true → Numbers (machine x) (machine y) (machine z) end ≡ closedTo place x y z end (drop end s)
-  is-closed a b c h = rw (← q, h, toZ-ofZ w64 x a, toZ-ofZ w64 y b, toZ-ofZ w64 z c)
+  pub sign-other : (i ≡ 1 → ⊥) → false ≡ signedAt b i
+  sign-other n = rw (ne-eqb i 1 n)
 
-pub ruleset closed-laws = (needs, not-true, not-false, not-closed, is-closed)
+pub ruleset sign-laws = (needs, sign-second, sign-other)
 
--- ---- the returns
--- what an answer must be, for a line with these fields whose word ends at `start`
-abbrev Reads : ℕ → Bytes → ℕ → List Holds → NumbersAt → Type 0
-Reads place s start fs r = r ≡ numbersTo place (line-end s start) (numbersIn fs (drop start s))
+-- ---- the loop's invariant: the numbers of the fields before field i are read, the others are 0, and what is left of the line is read from `at` on
+pub record Reading (b : Bool) (count : ℕ) (s : Bytes) (start : ℕ) (numbers : List ℤ) (at i : ℕ) : Type 0 where
+  few : count ≤ 3
+  within : i ≤ count
+  wide : length numbers ≡ 3
+  small : (k : ℕ) → Small (getD numbers k (pos 0))
+  free : (k : ℕ) → i ≤ k → getD numbers k (pos 0) ≡ pos 0
+  line : line-end s start ≡ line-end s at
+  left : numbersIn (fieldsBy b count) (drop start s) ≡ Option·map (λ ms. take i numbers ++ ms) (numbersIn (drop i (fieldsBy b count)) (drop at s))
 
-refused : (place : ℕ) (s : Bytes) (start : ℕ) (fs : List Holds) → numbersIn fs (drop start s) ≡ none → Reads place s start fs (NotOfForm 1 place)
-refused place s start fs e = rw e
-
-closes :
-    (place : ℕ) (s : Bytes) (start : ℕ) (fs : List Holds) (ns : List ℤ) (end : ℕ) (r : NumbersAt) → line-end s start ≡ line-end s end →
-    numbersIn fs (drop start s) ≡ Option·map (λ ms. ns ++ ms) (numbersIn [] (drop end s)) →
-    r ≡ closedTo place (getD ns 0 (pos 0)) (getD ns 1 (pos 0)) (getD ns 2 (pos 0)) end (drop end s) → Reads place s start fs r
-closes place s start fs ns end r line left e = go (begins lineFeed (drop end s)) refl e
+pub reading-start : (b : Bool) (count : ℕ) (s : Bytes) (start : ℕ) → count ≤ 3 → Reading b count s start (pos 0 ∷ pos 0 ∷ pos 0 ∷ []) start 0
+reading-start b count s start few =
+    record {
+      few = few;
+      within = omega arith;
+      wide = refl;
+      small = λ k. rw (zero-at k) (omega arith);
+      free = λ k h. zero-at k;
+      line = refl;
+      left = front (numbersIn (fieldsBy b count) (drop start s));
+    }
   where
-    go : (t : Bool) → begins lineFeed (drop end s) ≡ t
-        → r ≡ cond t (Numbers (getD ns 0 (pos 0)) (getD ns 1 (pos 0)) (getD ns 2 (pos 0)) end) (NotOfForm 1 place) → Reads place s start fs r
-    go false h v = let nothing : numbersIn fs (drop start s) ≡ none = left ∙ ap (Option·map (λ ms. ns ++ ms)) (no-line-feed (drop end s) h) in rw nothing v
-    go true h v =
-        let all : numbersIn fs (drop start s) ≡ some (ns ++ []) = left ∙ ap (Option·map (λ ms. ns ++ ms)) (line-feed (drop end s) h) in
-        let ends : line-end s start ≡ end = omega (arith, line, line-feed-here (drop end s) h) in
-        rw (all, append-nil ns, ends) v
+    zero-at : (k : ℕ) → getD (pos 0 ∷ pos 0 ∷ pos 0 ∷ []) k (pos 0) ≡ pos 0
+    zero-at zero = refl
+    zero-at (suc zero) = refl
+    zero-at (suc (suc zero)) = refl
+    zero-at (suc (suc (suc k))) = refl
 
--- numbers in front of those that are left
-in-front : (z : ℤ) (ns : List ℤ) (o : Option (List ℤ)) → both (some z) (Option·map (λ ms. ns ++ ms) o) ≡ Option·map (λ ms. (z ∷ ns) ++ ms) o
-in-front z ns none = refl
-in-front z ns (some ms) = refl
+    front : (o : Option (List ℤ)) → o ≡ Option·map (λ ms. [] ++ ms) o
+    front none = refl
+    front (some ms) = refl
 
-in-front-none : (o : Option (List ℤ)) → o ≡ Option·map (λ ms. [] ++ ms) o
-in-front-none none = refl
-in-front-none (some ms) = refl
+-- field i of a description that has it
+field-of : (b : Bool) (count i : ℕ) → count ≤ 3 → i < count → drop i (fieldsBy b count) ≡ holds (signedAt b i) ∷ drop (suc i) (fieldsBy b count)
+field-of b zero i few h = absurd (omega arith)
+field-of b (suc n) zero few h = refl
+field-of b (suc zero) (suc i) few h = absurd (omega arith)
+field-of b (suc (suc n)) (suc zero) few h = refl
+field-of b (suc (suc zero)) (suc (suc i)) few h = absurd (omega arith)
+field-of b (suc (suc (suc n))) (suc (suc zero)) few h = refl
+field-of b (suc (suc (suc n))) (suc (suc (suc i))) few h = absurd (omega arith)
 
-module _ (place : ℕ) (s : Bytes) (start count : ℕ) (b : Bool) where
-  pub no-fields : (r : NumbersAt) → count ≡ 0 → r ≡ closedTo place (pos 0) (pos 0) (pos 0) start (drop start s) → Reads place s start (fieldsBy b count) r
-  no-fields r n e = rw n (closes place s start [] [] start r refl (in-front-none (numbersIn [] (drop start s))) e)
+fields-end : (n : ℕ) (fs : List Holds) → drop n (take n fs) ≡ []
+fields-end zero fs = refl
+fields-end (suc n) [] = refl
+fields-end (suc n) (f ∷ fs) = fields-end n fs
 
-  module _ (some-field : count ≡ 0 → ⊥) (r₁ : FieldAt) (q₁ : r₁ ≡ fieldAfter false s start) where
-    pub first-missing : r₁ ≡ NoWhole → Reads place s start (fieldsBy b count) (NotOfForm 1 place)
-    first-missing e = refused place s start (fieldsBy b count) (go count some-field)
+-- one number more in front of those that are left
+in-front : (ns : List ℤ) (z : ℤ) (o : Option (List ℤ)) → Option·map (λ ms. ns ++ ms) (both (some z) o) ≡ Option·map (λ ms. (ns ++ (z ∷ [])) ++ ms) o
+in-front ns z none = refl
+in-front ns z (some ms) = ap some (sym (append-snoc ns z ms))
+
+-- 0 past the first n, whether they are cut off there or not
+cut-free : (n : ℕ) (ns : List ℤ) → ((k : ℕ) → n ≤ k → getD ns k (pos 0) ≡ pos 0) → (k : ℕ) → getD (take n ns) k (pos 0) ≡ getD ns k (pos 0)
+cut-free zero ns free k = sym (free k (omega arith))
+cut-free (suc n) [] free k = refl
+cut-free (suc n) (z ∷ ns) free zero = refl
+cut-free (suc n) (z ∷ ns) free (suc k) = cut-free n ns (λ j h. free (suc j) (omega arith)) k
+
+module _ {b : Bool} {count : ℕ} {s : Bytes} {start : ℕ} {numbers : List ℤ} {at i : ℕ} (w : Reading b count s start numbers at i) where
+  -- what is left has field i first
+  next-left :
+      i < count →
+      numbersIn (fieldsBy b count) (drop start s)
+      ≡ Option·map (λ ms. take i numbers ++ ms) (numbersIn (holds (signedAt b i) ∷ drop (suc i) (fieldsBy b count)) (drop at s))
+  next-left l = w .left ∙ ap (λ (fs : List Holds). Option·map (λ ms. take i numbers ++ ms) (numbersIn fs (drop at s))) (field-of b count i (w .few) l)
+
+  module _ (l : i < count) (t : Bool) (p : t ≡ signedAt b i) (r : FieldAt) (q : r ≡ fieldAfter t s at) where
+    pub field-missing : (place : ℕ) → r ≡ NoWhole → NotOfForm 1 place ≡ numbersTo place (line-end s start) (numbersIn (fieldsBy b count) (drop start s))
+    field-missing place e =
+        let nothing = missing (signedAt b i) s at r (q ∙ ap (λ (v : Bool). fieldAfter v s at) p) e (drop (suc i) (fieldsBy b count)) in
+        rw (next-left l, nothing)
+
+    pub field-more : (z : ℤ) (end : ℕ) → r ≡ Whole z end → Reading b count s start (set numbers i (machine z)) end (i + 1)
+    field-more z end e =
+        let field = stepped (signedAt b i) s at r (q ∙ ap (λ (v : Bool). fieldAfter v s at) p) e in
+        rw (small-held z (field .small), add-one i)
+        (record {
+          few = w .few;
+          within = omega arith;
+          wide = length-set numbers i z ∙ w .wide;
+          small = λ k. small-set (field .small) k;
+          free = λ k h. getD-set-other numbers i k z (pos 0) (λ f. omega arith) ∙ w .free k (omega arith);
+          line = w .line ∙ field .line;
+          left = next-left l ∙ ap (Option·map (λ ms. take i numbers ++ ms)) (field .left (drop (suc i) (fieldsBy b count)))
+              ∙ in-front (take i numbers) z (numbersIn (drop (suc i) (fieldsBy b count)) (drop end s))
+              ∙ ap (λ (ns : List ℤ). Option·map (λ ms. ns ++ ms) (numbersIn (drop (suc i) (fieldsBy b count)) (drop end s))) (sym (take-suc-set numbers i z below));
+        })
       where
-        go : (n : ℕ) → (n ≡ 0 → ⊥) → numbersIn (fieldsBy b n) (drop start s) ≡ none
-        go zero h = absurd (h refl)
-        go (suc n) h = missing false s start r₁ q₁ e (take n (holds b ∷ operand ∷ []))
+        below : i < length numbers
+        below = omega (arith, w .wide, w .few)
 
-    module _ (x : ℤ) (one : ℕ) (e₁ : r₁ ≡ Whole x one) where
-      first : Stepped false s start x one
-      first = stepped false s start r₁ q₁ e₁
+        small-set : Small z → (k : ℕ) → Small (getD (set numbers i z) k (pos 0))
+        small-set h k =
+            elim (ℕ-discrete k i) [
+              | yes f ↦ rw (f, getD-set-same numbers i z (pos 0) below) h
+              | no n ↦ rw (getD-set-other numbers i k z (pos 0) n) (w .small k)
+            ]
 
-      pub one-field : (r : NumbersAt) → count ≡ 1 → r ≡ closedTo place (machine x) (pos 0) (pos 0) one (drop one s) → Reads place s start (fieldsBy b count) r
-      one-field r n e =
-          rw n
-          (closes place s start (operand ∷ []) (x ∷ []) one r (first .line)
-          (first .left [] ∙ ap (both (some x)) (in-front-none (numbersIn [] (drop one s))) ∙ in-front x [] (numbersIn [] (drop one s)))
-          (rw (small-held x (first .small)) at e))
+  -- every field is read
+  module _ (l : count ≤ i) (t : Bool) (q : t ≡ begins lineFeed (drop at s)) where
+    all-left : numbersIn (fieldsBy b count) (drop start s) ≡ Option·map (λ ms. take count numbers ++ ms) (numbersIn [] (drop at s))
+    all-left =
+        let same : i ≡ count = omega (arith, w .within) in
+        rw (same, fields-end count (operand ∷ holds b ∷ operand ∷ [])) at (w .left)
 
-      module _ (more : count ≡ 1 → ⊥) (r₂ : FieldAt) (q₂ : r₂ ≡ fieldAfter b s one) where
-        pub second-missing : r₂ ≡ NoWhole → Reads place s start (fieldsBy b count) (NotOfForm 1 place)
-        second-missing e = refused place s start (fieldsBy b count) (go count some-field more)
-          where
-            go : (n : ℕ) → (n ≡ 0 → ⊥) → (n ≡ 1 → ⊥) → numbersIn (fieldsBy b n) (drop start s) ≡ none
-            go zero h k = absurd (h refl)
-            go (suc zero) h k = absurd (k refl)
-            go (suc (suc n)) h k =
-                first .left (holds b ∷ take n (operand ∷ [])) ∙ ap (both (some x)) (missing b s one r₂ q₂ e (take n (operand ∷ [])))
+    pub not-closed : (place : ℕ) → t ≡ false → NotOfForm 1 place ≡ numbersTo place (line-end s start) (numbersIn (fieldsBy b count) (drop start s))
+    not-closed place h = rw (all-left, no-line-feed (drop at s) (sym q ∙ h))
 
-        module _ (y : ℤ) (two : ℕ) (e₂ : r₂ ≡ Whole y two) where
-          second : Stepped b s one y two
-          second = stepped b s one r₂ q₂ e₂
+    number-at : (k : ℕ) → getD (take count numbers) k (pos 0) ≡ getD numbers k (pos 0)
+    number-at = cut-free count numbers (λ k h. w .free k (omega arith))
 
-          -- what is left after two fields
-          two-left :
-              (fs : List Holds) →
-              numbersIn (operand ∷ holds b ∷ fs) (drop start s) ≡ both (some x) (both (some y) (numbersIn fs (drop two s)))
-          two-left fs = first .left (holds b ∷ fs) ∙ ap (both (some x)) (second .left fs)
+    pub is-closed :
+        (place : ℕ) → t ≡ true →
+        Numbers (machine (getD numbers 0 (pos 0))) (machine (getD numbers 1 (pos 0))) (machine (getD numbers 2 (pos 0))) at
+        ≡ numbersTo place (line-end s start) (numbersIn (fieldsBy b count) (drop start s))
+    is-closed place h =
+        let closes : begins lineFeed (drop at s) ≡ true = sym q ∙ h in
+        let ends : line-end s start ≡ at = omega (arith, w .line, line-feed-here (drop at s) closes) in
+        rw (all-left, line-feed (drop at s) closes, append-nil (take count numbers), ends, number-at 0, number-at 1, number-at 2)
+        (rw (small-held (getD numbers 0 (pos 0)) (w .small 0), small-held (getD numbers 1 (pos 0)) (w .small 1), small-held (getD numbers 2 (pos 0)) (w .small 2)))
 
-          pub two-fields : (r : NumbersAt) → count ≡ 2 → r ≡ closedTo place (machine x) (machine y) (pos 0) two (drop two s) → Reads place s start (fieldsBy b count) r
-          two-fields r n e =
-              rw n
-              (closes place s start (operand ∷ holds b ∷ []) (x ∷ y ∷ []) two r (first .line ∙ second .line) (two-left [] ∙ front (numbersIn [] (drop two s)))
-              (rw (small-held x (first .small), small-held y (second .small)) at e))
-            where
-              front : (o : Option (List ℤ)) → both (some x) (both (some y) o) ≡ Option·map (λ ms. (x ∷ y ∷ []) ++ ms) o
-              front none = refl
-              front (some ms) = refl
-
-          module _ (all : count ≡ 2 → ⊥) (few : count ≤ 3) (r₃ : FieldAt) (q₃ : r₃ ≡ fieldAfter false s two) where
-            three : count ≡ 3
-            three = go count some-field more all few
-              where
-                go : (n : ℕ) → (n ≡ 0 → ⊥) → (n ≡ 1 → ⊥) → (n ≡ 2 → ⊥) → n ≤ 3 → n ≡ 3
-                go zero h k l m = absurd (h refl)
-                go (suc zero) h k l m = absurd (k refl)
-                go (suc (suc zero)) h k l m = absurd (l refl)
-                go (suc (suc (suc n))) h k l m = omega arith
-
-            pub third-missing : r₃ ≡ NoWhole → Reads place s start (fieldsBy b count) (NotOfForm 1 place)
-            third-missing e =
-                rw three
-                (refused place s start (operand ∷ holds b ∷ operand ∷ [])
-                (two-left (operand ∷ []) ∙ ap (λ (o : Option (List ℤ)). both (some x) (both (some y) o)) (missing false s two r₃ q₃ e [])))
-
-            module _ (z : ℤ) (end : ℕ) (e₃ : r₃ ≡ Whole z end) where
-              third : Stepped false s two z end
-              third = stepped false s two r₃ q₃ e₃
-
-              pub three-fields :
-                  (r : NumbersAt) → r ≡ closedTo place (machine x) (machine y) (machine z) end (drop end s) → Reads place s start (fieldsBy b count) r
-              three-fields r e =
-                  rw three
-                  (closes place s start (operand ∷ holds b ∷ operand ∷ []) (x ∷ y ∷ z ∷ []) end r (first .line ∙ second .line ∙ third .line)
-                  (two-left (operand ∷ []) ∙ ap (λ (o : Option (List ℤ)). both (some x) (both (some y) o)) (third .left []) ∙ front (numbersIn [] (drop end s)))
-                  (rw (small-held x (first .small), small-held y (second .small), small-held z (third .small)) at e))
-                where
-                  front : (o : Option (List ℤ)) → both (some x) (both (some y) (both (some z) o)) ≡ Option·map (λ ms. (x ∷ y ∷ z ∷ []) ++ ms) o
-                  front none = refl
-                  front (some ms) = refl
-
-pub ruleset numbers-laws = (needs, no-fields, first-missing, one-field, second-missing, two-fields, third-missing, three-fields)
-
--- the same for three numbers
-module _ (place : ℕ) (s : Bytes) (start : ℕ) (r₁ : FieldAt) (q₁ : r₁ ≡ fieldAfter false s start) where
-  pub no-first : r₁ ≡ NoWhole → Reads place s start (fieldsBy false 3) (NotOfForm 1 place)
-  no-first e = first-missing place s start 3 false (λ h. omega arith) r₁ q₁ e
-
-  module _ (x : ℤ) (one : ℕ) (e₁ : r₁ ≡ Whole x one) (r₂ : FieldAt) (q₂ : r₂ ≡ fieldAfter false s one) where
-    pub no-second : r₂ ≡ NoWhole → Reads place s start (fieldsBy false 3) (NotOfForm 1 place)
-    no-second e = second-missing place s start 3 false (λ h. omega arith) r₁ q₁ x one e₁ (λ h. omega arith) r₂ q₂ e
-
-    module _ (y : ℤ) (two : ℕ) (e₂ : r₂ ≡ Whole y two) (r₃ : FieldAt) (q₃ : r₃ ≡ fieldAfter false s two) where
-      pub no-third : r₃ ≡ NoWhole → Reads place s start (fieldsBy false 3) (NotOfForm 1 place)
-      no-third e =
-          third-missing place s start 3 false (λ h. omega arith) r₁ q₁ x one e₁ (λ h. omega arith) r₂ q₂ y two e₂ (λ h. omega arith) (omega arith) r₃ q₃ e
-
-      pub all-three :
-          (z : ℤ) (end : ℕ) → r₃ ≡ Whole z end → (r : NumbersAt) → r ≡ closedTo place (machine x) (machine y) (machine z) end (drop end s) →
-          Reads place s start (fieldsBy false 3) r
-      all-three z end e₃ r e =
-          three-fields place s start 3 false (λ h. omega arith) r₁ q₁ x one e₁ (λ h. omega arith) r₂ q₂ y two e₂ (λ h. omega arith) (omega arith) r₃ q₃ z end e₃ r e
-
-pub ruleset three-laws = (needs, no-first, no-second, no-third, all-three)
+pub ruleset loop-laws = (needs, not-true, not-false, reading-start, field-missing, field-more, not-closed, is-closed)

@@ -23,10 +23,10 @@ use Rattle.fields.proofs.NumberLaws.{number-below, amount-below}
 use Rattle.rows.specs.Fields.{Holds, operand, ranged, upToTop, amount, natural, signed, readField, both, readFields}
 use Rattle.rows.proofs.Tests.{cond-cases, and-second}
 use Rattle.rows.proofs.FieldLaws.{some-is, none-some, Held, Fields, fields-read-written}
-use Rattle.rows.specs.Forms.{afterWord, Vocabulary, named, Said, saying, readSaid}
+use Rattle.rows.specs.Forms.{afterWord, Vocabulary, named, saying, readSaid}
 use Rattle.rows.specs.Lines.{Lines, lines, closed, inFront, linesOf}
 use Rattle.forms.specs.Along.{lineIn, isClosed, afterLine, fieldIn, numbersIn}
-use Rattle.forms.proofs.WordLaws.{Cut, cut}
+use Rattle.forms.proofs.WordLaws.{cut}
 
 -- ---- the form of a closed line
 module _ (t : Bytes) (closes : isClosed t ≡ true) where
@@ -38,10 +38,10 @@ module _ (t : Bytes) (closes : isClosed t ≡ true) where
   pub worded-reads :
       {W : Type 0} (v : Vocabulary W) (w : W) → named v (v .words) (fieldIn t) ≡ some w →
       readSaid v (split tab (lineIn t)) ≡ Option·map (saying w) (numbersIn (v .fields w) (drop (length (fieldIn t)) t))
-  worded-reads v w e = let c = cut t closes in rw (c .pieces, e, c .numbers (v .fields w))
+  worded-reads v w e = let c = cut t closes in rw (c .pieces, e, readSaid, c .numbers (v .fields w))
 
   pub worded-none : {W : Type 0} (v : Vocabulary W) → named v (v .words) (fieldIn t) ≡ none → readSaid v (split tab (lineIn t)) ≡ none
-  worded-none v e = let c = cut t closes in rw (c .pieces, e)
+  worded-none v e = let c = cut t closes in rw (c .pieces, e, readSaid)
 
 -- ---- the numbers depend on no more of a description than which fields have a sign
 abbrev pub isSigned : Holds → Bool

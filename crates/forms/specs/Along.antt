@@ -56,13 +56,13 @@ numbersIn fs (b ∷ bs) =
 unfoldable pub fieldAfter : Bool → Bytes → ℕ → FieldAt
 fieldAfter signed s at = cond (begins tab (drop at s)) (fieldAt signed s (at + 1)) NoWhole
 
+-- whether field i, counted from 0, may have a sign: the second, where `signed` says so
+abbrev pub signedAt : Bool → ℕ → Bool
+signedAt signed i = cond (eqb i 1) signed false
+
 -- a description of up to three fields: the second has an amount, or they all have numbers
 abbrev pub fieldsBy : Bool → ℕ → List Holds
 fieldsBy signed count = take count (operand ∷ cond signed (amount 0) operand ∷ operand ∷ [])
-
--- a line's numbers, with nothing but the line feed after them
-abbrev pub closedTo : ℕ → ℤ → ℤ → ℤ → ℕ → Bytes → NumbersAt
-closedTo place first second third end t = cond (begins lineFeed t) (Numbers first second third end) (NotOfForm 1 place)
 
 -- what is read of a line with that place whose line feed stands at `end`
 abbrev pub numbersTo : ℕ → ℕ → Option (List ℤ) → NumbersAt

@@ -7,7 +7,7 @@ ghost use Prim.Native.Nat.{_+_, _≤_};
 ghost use lib.Dec.{T};
 ghost use lib.ListN.{length, drop};
 ghost use Rattle.fields.specs.Pieces.{sameBytes};
-ghost use Rattle.forms.specs.Along.{lineIn, fieldIn, numbersIn, endsField, isPlain, fieldAfter, fieldsBy, closedTo, numbersTo};
+ghost use Rattle.forms.specs.Along.{lineIn, fieldIn, numbersIn, endsField, isPlain, fieldAfter, signedAt, fieldsBy, numbersTo};
 
 // The numbers of a line's fields, 0 past them, and the place of its line feed; or the refusal of a line that is not of the form.
 pub enum NumbersAt {
@@ -63,75 +63,39 @@ fn field_after(text: &[u8], at: usize, signed: bool) -> FieldAt
     fields::field_at(text, at + 1, signed)
 }
 
-// The numbers of a line whose last field ends here, where a line feed closes it.
-fn closed(place: u32, text: &[u8], first: i64, second: i64, third: i64, end: usize) -> NumbersAt
-    ensures { λ r. ⌜ r ≡ closedTo place first second third end (drop end (now (text .entry))) ⌝ }
+// Whether field i, counted from 0, may have a sign: the second, where `signed` says so.
+fn is_signed(signed: bool, i: usize) -> bool
+    ensures { λ r. ⌜ r ≡ signedAt signed i ⌝ }
 {
-    if !fields::is_at(text, end, b'\n') {
-        return NumbersAt::NotOfForm { number: 1, place };
+    if i == 1 {
+        return signed;
     }
-    NumbersAt::Numbers {
-        first,
-        second,
-        third,
-        end,
-    }
+    false
 }
 
-// So many fields after a word that ends at `start`, of which the second may have a sign.
+// So many fields after a word that ends at `start`, of which the second may have a sign, and a line feed after the last.
 pub fn numbers_at(place: u32, text: &[u8], start: usize, count: usize, signed: bool) -> NumbersAt
     requires { ⌜ count ≤ 3 ⌝ }
     ensures { λ r. ⌜ r ≡ numbersTo place (start + length (lineIn (drop start (now (text .entry))))) (numbersIn (fieldsBy signed count) (drop start (now (text .entry)))) ⌝ }
 {
-    if count == 0 {
-        return closed(place, text, 0, 0, 0, start);
+    let mut numbers = [0i64; 3];
+    let mut at = start;
+    let mut i: usize = 0;
+    while i < count {
+        let FieldAt::Whole { number, end } = field_after(text, at, is_signed(signed, i)) else {
+            return NumbersAt::NotOfForm { number: 1, place };
+        };
+        numbers[i] = number;
+        at = end;
+        i += 1;
     }
-    let FieldAt::Whole {
-        number: first,
-        end: one,
-    } = field_after(text, start, false)
-    else {
+    if !fields::is_at(text, at, b'\n') {
         return NumbersAt::NotOfForm { number: 1, place };
-    };
-    if count == 1 {
-        return closed(place, text, first, 0, 0, one);
     }
-    let FieldAt::Whole {
-        number: second,
-        end: two,
-    } = field_after(text, one, signed)
-    else {
-        return NumbersAt::NotOfForm { number: 1, place };
-    };
-    if count == 2 {
-        return closed(place, text, first, second, 0, two);
+    NumbersAt::Numbers {
+        first: numbers[0],
+        second: numbers[1],
+        third: numbers[2],
+        end: at,
     }
-    let FieldAt::Whole { number: third, end } = field_after(text, two, false) else {
-        return NumbersAt::NotOfForm { number: 1, place };
-    };
-    closed(place, text, first, second, third, end)
-}
-
-// Three numbers, as a header line has them. A function with one caller is compiled into its loop: with one for header and lines, reading took 1.4 times as long.
-pub fn three_numbers_at(place: u32, text: &[u8], start: usize) -> NumbersAt
-    ensures { λ r. ⌜ r ≡ numbersTo place (start + length (lineIn (drop start (now (text .entry))))) (numbersIn (fieldsBy false 3) (drop start (now (text .entry)))) ⌝ }
-{
-    let FieldAt::Whole {
-        number: first,
-        end: one,
-    } = field_after(text, start, false)
-    else {
-        return NumbersAt::NotOfForm { number: 1, place };
-    };
-    let FieldAt::Whole {
-        number: second,
-        end: two,
-    } = field_after(text, one, false)
-    else {
-        return NumbersAt::NotOfForm { number: 1, place };
-    };
-    let FieldAt::Whole { number: third, end } = field_after(text, two, false) else {
-        return NumbersAt::NotOfForm { number: 1, place };
-    };
-    closed(place, text, first, second, third, end)
 }

@@ -27,7 +27,7 @@ use Rattle.reserves.specs.declared.LineReserve.the-variants.{Leaves, TooFew}
 use Rattle.reserves.specs.Walks.{stepOf, oneMore}
 use Rattle.reserves.proofs.Known.{bests-for, run-stopped}
 use Rattle.choices.proofs.Readings as Readings
-use Rattle.reserves.proofs.Walk.{Walking, walk-start, walk-done, walk-known, walk-stops, walk-more, line-below, number-fits, place-fits, offset-fits}
+use Rattle.levels.proofs.Walk.{Walking, walk-start, walk-done, walk-known, walk-stops, walk-more, line-below, number-fits, place-fits, offset-fits}
 
 -- The invariant of the loop over levels: trying the levels from this one on comes to what trying all of them comes to.
 pub record Seeking (given : Header) (records : List (List ℕ)) (count : ℕ) (reserves : List ℤ) (level : ℕ) : Type 0 where

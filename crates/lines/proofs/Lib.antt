@@ -1,6 +1,3 @@
 pub mod LineLaws
-mod KindLaws
-mod RangeLaws
-mod JudgeLaws
 mod ReadLaws
 mod HeaderLaws

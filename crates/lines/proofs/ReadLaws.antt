@@ -28,10 +28,13 @@ use Rattle.forms.specs.declared.NumbersAt.{NumbersAt}
 use Rattle.forms.specs.declared.NumbersAt.the-variants.{Numbers, NotOfForm}
 use Rattle.forms.specs.Along.{lineIn, numbersIn, fieldsBy, numbersTo}
 use Rattle.forms.proofs.TextLaws.{alike, alike-numbers, Small, small-held, numbers-small, numbers-closed}
-use Rattle.lines.specs.declared.LineRead.{LineRead}
-use Rattle.lines.specs.Judging.{NumbersRead}
-use Rattle.lines.specs.Lines.{lineRead, lineTo, judgedAs, wordJudged}
-use Rattle.lines.proofs.JudgeLaws.{line-of-three}
+use Rattle.words.specs.declared.WordRow.{WordRow}
+use Rattle.words.specs.Words.{rowOf}
+use Rattle.judging.specs.declared.LineRead.{LineRead}
+use Rattle.judging.specs.declared.FormedLine.{FormedLine}
+use Rattle.judging.specs.Judging.{NumbersRead, lineRead, lineTo, judgedAs}
+use Rattle.lines.specs.Lines.{wordJudged}
+use Rattle.judging.proofs.JudgeLaws.{line-of-three}
 
 -- ---- what the numbers of an answer are
 -- numbers were read, or none
@@ -84,8 +87,10 @@ module _ (fs : List Holds) (t : Bytes) (place end : ℕ) (r : NumbersAt) (a : An
       go (numbers ns some-numbers a) = cc
 
 -- no word has more than three fields
-pub three-fields : (w : Word) (f : ℕ) → f ≡ length (entry w .fields) → f ≤ 3
-three-fields w f q = let few = leb→le (length (entry w .fields)) 3 (every-word (λ v. leb (length (entry v .fields)) 3) tt w) in omega arith
+pub three-fields : (w : Word) (row : WordRow) → row ≡ rowOf w → row .fields ≤ 3
+three-fields w row q =
+    let few = leb→le (length (entry w .fields)) 3 (every-word (λ v. leb (length (entry v .fields)) 3) tt w) in
+    omega (arith, ap (λ (v : WordRow). v .fields) q)
 
 module _ (g : Grammar) (h : Header) (lines : List Line) (w : Word) (n start : ℕ) (s : Bytes) where
   pub no-word : (t : Bool) → t ≡ hasWord g w → t ≡ false
@@ -93,13 +98,13 @@ module _ (g : Grammar) (h : Header) (lines : List Line) (w : Word) (n start : �
   unfolding wordJudged
   no-word t q e = rw (← q, e)
 
-module _ (w : Word) (n start : ℕ) (s : Bytes) (f : ℕ) (qf : f ≡ length (entry w .fields)) (b : Bool) (qb : b ≡ sameWord w Rot) (r : NumbersAt)
-    (q : r ≡ numbersTo (n + 2) (start + length (lineIn (drop start s))) (numbersIn (fieldsBy b f) (drop start s))) where
+module _ (w : Word) (n start : ℕ) (s : Bytes) (row : WordRow) (qr : row ≡ rowOf w) (b : Bool) (qb : b ≡ sameWord w Rot) (r : NumbersAt)
+    (q : r ≡ numbersTo (n + 2) (start + length (lineIn (drop start s))) (numbersIn (fieldsBy b (row .fields)) (drop start s))) where
   -- the fields that the code goes by are like those of the word
-  described : numbersIn (fieldsBy b f) (drop start s) ≡ numbersIn (entry w .fields) (drop start s)
+  described : numbersIn (fieldsBy b (row .fields)) (drop start s) ≡ numbersIn (entry w .fields) (drop start s)
   unfolding alike
   described =
-      ap₂ (λ (v : Bool) (m : ℕ). numbersIn (fieldsBy v m) (drop start s)) qb qf
+      ap₂ (λ (v : Bool) (f : WordRow). numbersIn (fieldsBy v (f .fields)) (drop start s)) qb qr
       ∙ sym (alike-numbers (entry w .fields) (fieldsBy (sameWord w Rot) (length (entry w .fields))) (drop start s)
       (every-word (λ v. alike (entry v .fields) (fieldsBy (sameWord v Rot) (length (entry v .fields)))) tt w))
 
@@ -124,27 +129,46 @@ module _ (w : Word) (n start : ℕ) (s : Bytes) (f : ℕ) (qf : f ≡ length (en
     pub past-within : e + 1 ≤ length s
     past-within = omega (arith, length-drop start s, end-told, numbers-closed (entry w .fields) (drop start s) (numbers-told .read))
 
-    pub numbers-read : NumbersRead w (toZ w64 (ofZ w64 x)) (toZ w64 (ofZ w64 y)) (toZ w64 (ofZ w64 z))
-    numbers-read =
-        record {
-          text = drop start s;
-          numbers = numbers-told .given;
-          read = numbers-told .read;
-          one = numbers-told .first;
-          two = numbers-told .second;
-          three = numbers-told .third;
-        }
+    -- the line that is judged, as the machine holds its numbers
+    abbrev formed : FormedLine
+    formed = record { word = w; asks = row .asks; first = toZ w64 (ofZ w64 x); second = toZ w64 (ofZ w64 y); third = toZ w64 (ofZ w64 z); end = e + 1 }
 
-    pub line-judged : (g : Grammar) (h : Header) (lines : List Line) (t : Bool) → t ≡ hasWord g w → t ≡ true → (a : LineRead)
-        → lineRead w a ≡ lineTo (placeOf n) (e + 1) (judgedAs g h lines (lineOf w (toZ w64 (ofZ w64 x) ∷ toZ w64 (ofZ w64 y) ∷ toZ w64 (ofZ w64 z) ∷ [])))
-        → lineRead w a ≡ lineTo (placeOf n) (start + length (lineIn (drop start s)) + 1) (wordJudged g h lines w (drop start s))
-    unfolding wordJudged judgedAs
-    line-judged g h lines t k o a j =
-        j ∙ ap₂ (λ (m : ℕ) (v : Line). lineTo (placeOf n) (m + 1) (judgedAs g h lines v)) end-told
-        (line-of-three w (numbers-told .given) (numbers-told .first) (numbers-told .second) (numbers-told .third))
-        ∙ sym (rw (← k, o, numbers-told .read))
+    module _ (line : FormedLine) (made : line ≡ formed) where
+      pub numbers-read : NumbersRead (line .word) (line .first) (line .second) (line .third)
+      numbers-read = subst (λ (l : FormedLine). NumbersRead (l .word) (l .first) (l .second) (l .third)) (sym made) all
+        where
+          all : NumbersRead (formed .word) (formed .first) (formed .second) (formed .third)
+          all =
+              record {
+                text = drop start s;
+                numbers = numbers-told .given;
+                read = numbers-told .read;
+                one = numbers-told .first;
+                two = numbers-told .second;
+                three = numbers-told .third;
+              }
 
-pub has-word : (g : Grammar) (w : Word) (t : Bool) → t ≡ hasWord g w → t ≡ true → T (hasWord g w)
-has-word g w t q e = subst T (sym e ∙ q) tt
+      pub line-judged : (g : Grammar) (h : Header) (lines : List Line) (t : Bool) → t ≡ hasWord g w → t ≡ true → (a : LineRead)
+          → lineRead (line .word) a
+          ≡ lineTo (placeOf n) (line .end) (judgedAs g h lines (lineOf (line .word) (line .first ∷ line .second ∷ line .third ∷ [])))
+          → lineRead w a ≡ lineTo (placeOf n) (start + length (lineIn (drop start s)) + 1) (wordJudged g h lines w (drop start s))
+      unfolding wordJudged judgedAs
+      line-judged g h lines t k o a j =
+          subst
+          (λ (l : FormedLine). lineRead (l .word) a ≡ lineTo (placeOf n) (l .end) (judgedAs g h lines (lineOf (l .word) (l .first ∷ l .second ∷ l .third ∷ []))))
+          made j
+          ∙ ap₂ (λ (m : ℕ) (v : Line). lineTo (placeOf n) (m + 1) (judgedAs g h lines v)) end-told
+          (line-of-three w (numbers-told .given) (numbers-told .first) (numbers-told .second) (numbers-told .third))
+          ∙ sym (rw (← k, o, numbers-told .read))
 
-pub ruleset line-laws = (needs, not-true, not-false, three-fields, no-word, no-form, numbers-read, line-judged, has-word)
+-- what is known of the word is known of the line
+module _ (w : Word) (row : WordRow) (x y z : ℤ) (e : ℕ) (line : FormedLine)
+    (made : line ≡ record { word = w; asks = row .asks; first = x; second = y; third = z; end = e }) where
+  pub line-asks : row ≡ rowOf w → line .asks ≡ rowOf (line .word) .asks
+  line-asks q =
+      ap (λ (l : FormedLine). l .asks) made ∙ ap (λ (v : WordRow). v .asks) q ∙ ap (λ (l : FormedLine). rowOf (l .word) .asks) (sym made)
+
+  pub has-word : (g : Grammar) (t : Bool) → t ≡ hasWord g w → t ≡ true → T (hasWord g (line .word))
+  has-word g t q h = subst T (sym h ∙ q ∙ ap (λ (l : FormedLine). hasWord g (l .word)) (sym made)) tt
+
+pub ruleset line-laws = (needs, not-true, not-false, three-fields, no-word, no-form, numbers-read, line-judged, line-asks, has-word)

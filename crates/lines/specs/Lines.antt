@@ -1,9 +1,8 @@
--- What the code uses: the line and the header line that a text begins with, and what an answer says of them.
+-- What the code uses: the line and the header line that a text begins with, and what an answer says of the header line.
 use Prim.Native.Nat.{ℕ}
 use mathlib.Core.Bool.{cond}
 use mathlib.Core.List.{List, [], _∷_}
-use mathlib.Core.Option.{Option, Option·map}
-use lib.IntN.{ℤ}
+use mathlib.Core.Option.{Option·map}
 use Rattle.fields.specs.Pieces.{Bytes}
 use Rattle.rows.specs.Rows.{Judgement, bad, Reading, read, refused, judged, formed, at}
 use Rattle.model.specs.declared.Grammar.{Grammar}
@@ -15,25 +14,11 @@ use Rattle.model.specs.Words.{entry, hasWord}
 use Rattle.model.specs.Files.{lineOf, lineTests}
 use Rattle.text.specs.Files.{headerForm, lineForm}
 use Rattle.forms.specs.Along.{lineIn, isClosed, numbersIn}
-use Rattle.tables.specs.Records.{lineWith}
-use Rattle.lines.specs.declared.LineRead.{LineRead}
-use Rattle.lines.specs.declared.LineRead.the-variants as Lines
 use Rattle.lines.specs.declared.headers.HeaderRead.{HeaderRead}
 use Rattle.lines.specs.declared.headers.HeaderRead.the-variants as Headers
 
--- ---- a line
--- what an answer says, of a line with this word: the line that its record holds and the place past it, or a refusal
-abbrev pub lineRead : Word → LineRead → Reading (Line × ℕ)
-lineRead w (Lines.Good a b c end) = read (lineWith w a b c, end)
-lineRead w (Lines.Bad n place) = refused n place
-
-abbrev pub lineTo : ℕ → ℕ → Judgement Line → Reading (Line × ℕ)
-lineTo place end j = at place j (λ x. read (x, end))
-
-unfoldable pub judgedAs : Grammar → Header → List Line → Line → Judgement Line
-judgedAs g h done x = judged (lineTests g h done x) x
-
--- a line whose word ends here: 1 where the file has no such word
+-- ---- the line
+-- one whose word ends here: 1 where the file has no such word
 unfoldable pub wordJudged : Grammar → Header → List Line → Word → Bytes → Judgement Line
 wordJudged g h done w t = cond (hasWord g w) (formed (Option·map (lineOf w) (numbersIn (entry w .fields) t)) (lineTests g h done)) (bad 1)
 

@@ -1,5 +1,4 @@
 // Reading the header line: a grammar's own word and three numbers, each from 1 to 60.
-use crate::judging;
 use forms::NumbersAt;
 use model::Grammar;
 use model::Header;
@@ -81,7 +80,7 @@ pub fn read_header(grammar: Grammar, text: &[u8]) -> HeaderRead
             place: 1,
         };
     }
-    match forms::three_numbers_at(1, text, header_end(grammar)) {
+    match forms::numbers_at(1, text, header_end(grammar), 3, false) {
         NumbersAt::NotOfForm { number, place } => HeaderRead::Bad { number, place },
         NumbersAt::Numbers {
             first,

@@ -1,17 +1,15 @@
--- The number with which the check refuses a line is that of the first test that applies to it, over any scales and levels that keep the rules at
+-- The number with which the check refuses a line is that of the first test that it fails, over any scales and levels that keep the rules at
 -- the lines before it. Assumes nothing.
-use Prim.Native.Nat.{ℕ, suc, _+_, _*_}
-use native.Mathlib.Omega.{arith}
+use Prim.Native.Nat.{ℕ, _+_, _*_}
 use mathlib.Core.Path.{_≡_, refl, sym, ap, _∙_, subst}
-use mathlib.Core.Bool.{Bool, true, false, not, cond}
+use mathlib.Core.Bool.{Bool, true, false, not}
 use mathlib.Core.List.{List, [], _∷_, _++_}
-use mathlib.Core.Option.{Option, none, some}
 use lib.Dec.{T, eqb}
 use lib.ListN.{length, getD, take}
 use lib.Seq.{take-suc}
 use lib.IntN.{ℤ, pos, _+ℤ_, _-ℤ_, _*ℤ_}
-use lib.Signed.{leZ, ltZ}
-use Rattle.ints.proofs.Linear.{le-parts, lt-true, not-le-parts, parts-lt}
+use lib.Signed.{leZ}
+use Rattle.rows.specs.Rows.{Tests, bad, judged}
 use Rattle.model.specs.declared.Header.{Header}
 use Rattle.model.specs.declared.Line.{Line}
 use Rattle.model.specs.declared.Line.the-variants.{In, Const, Neg, Rot, Add, Mul, Out, Enc, Rs, Ms, Us, Free}
@@ -20,13 +18,13 @@ use Rattle.model.specs.declared.Kind.{Kind}
 use Rattle.model.specs.declared.Kind.the-variants.{Ciphertext}
 use Rattle.model.specs.Scales.{headroom}
 use Rattle.model.specs.Files.{isWord, isConstant, wellFormed}
-use Rattle.model.specs.Machine.{Step, goes, stops, Run, finished, stopped, step, runFrom, run}
+use Rattle.model.specs.Machine.{Step, goes, stops, Run, finished, stopped, step, run}
 use Rattle.model.specs.Rules.{KeepsRules}
 use Rattle.model.specs.declared.Found.{Found}
 use Rattle.model.specs.declared.Found.the-variants as Founds
 use Rattle.model.specs.Answers.{bounded, onCiphertext, sum, product, checkMachine}
-use Rattle.model.specs.Broken.{Fault, firstFault, boundFaults, lineFaults}
-use Rattle.model.proofs.Tests.{cond-true, cond-false, eq-passes}
+use Rattle.model.specs.Broken.{scaleTests, ruleTests}
+use Rattle.model.proofs.Tests.{eq-passes}
 use Rattle.model.proofs.Runs.{stopped-finished, stopped-is, continued, first-stop}
 use Rattle.model.proofs.Outcomes.{Outcome}
 use Rattle.model.proofs.Bounded.{bounded-tests, sum-tests, product-cases}
@@ -42,16 +40,6 @@ is-false : (b : Bool) → T (not b) → b ≡ false
 is-false true t = absurd t
 is-false false t = refl
 
-below : (a b : ℤ) → T (not (leZ a b)) → ltZ b a ≡ true
-below a b t = is-true (ltZ b a) (parts-lt b a (not-le-parts a b t))
-
-not-below : (a b : ℤ) → T (leZ a b) → ltZ b a ≡ false
-not-below a b t = go (ltZ b a) refl
-  where
-    go : (c : Bool) → ltZ b a ≡ c → c ≡ false
-    go true e = absurd (omega (arith, le-parts a b t, lt-true b a e))
-    go false e = refl
-
 same : (m n : ℕ) → m ≡ n → eqb m n ≡ true
 same m n e = is-true (eqb m n) (eq-passes m n e)
 
@@ -60,29 +48,29 @@ same m n e = is-true (eqb m n) (eq-passes m n e)
 abbrev Any : Found → Type 0
 Any v = Unit {0}
 
--- the tests before those of the bounds do not apply
-bounded-says : (h : Header) (tests : List Fault) (make : ℕ → ℕ → Found) (s l : ℤ) → firstFault tests ≡ firstFault (boundFaults h s l)
-    → Outcome (λ n. firstFault tests ≡ some n) Any (bounded h make s l)
-bounded-says h tests make s l e =
-    bounded-tests h (Outcome (λ n. firstFault tests ≡ some n) Any) make s l (λ t u. tt)
-    (λ t u. e ∙ nine (not-below (pos (h .waterline)) s t) (below (s +ℤ pos (headroom h)) (pos (h .factor) *ℤ l) u)) (λ t. e ∙ ten (below (pos (h .waterline)) s t))
+-- the tests before those of the bounds are passed
+bounded-says : (h : Header) (x : Line) (tests : Tests) (make : ℕ → ℕ → Found) (s l : ℤ) → judged tests x ≡ judged (scaleTests h s l) x
+    → Outcome (λ n. judged tests x ≡ bad n) Any (bounded h make s l)
+bounded-says h x tests make s l e =
+    bounded-tests h (Outcome (λ n. judged tests x ≡ bad n) Any) make s l (λ t u. tt)
+    (λ t u. e ∙ nine (is-true _ t) (is-false _ u)) (λ t. e ∙ ten (is-false _ t))
   where
-    nine : ltZ s (pos (h .waterline)) ≡ false → ltZ (pos (h .factor) *ℤ l) (s +ℤ pos (headroom h)) ≡ true → firstFault (boundFaults h s l) ≡ some 9
+    nine : leZ (pos (h .waterline)) s ≡ true → leZ (s +ℤ pos (headroom h)) (pos (h .factor) *ℤ l) ≡ false → judged (scaleTests h s l) x ≡ bad 9
     nine p q = simp (p, q)
 
-    ten : ltZ s (pos (h .waterline)) ≡ true → firstFault (boundFaults h s l) ≡ some 10
+    ten : leZ (pos (h .waterline)) s ≡ false → judged (scaleTests h s l) x ≡ bad 10
     ten p = simp p
 
 module _ (h : Header) (scale level : ℕ → ℕ) where
   abbrev Says : Line → ℕ → Type 0
-  Says x n = firstFault (lineFaults h scale level x) ≡ some n
+  Says x n = judged (ruleTests h scale level x) x ≡ bad n
 
-  -- within the bounds of the line's rule, or the number of the test that applies
-  within : (x : Line) (make : ℕ → ℕ → Found) (s l : ℤ) → firstFault (lineFaults h scale level x) ≡ firstFault (boundFaults h s l) → Outcome (Says x) Any (bounded h make s l)
-  within x make s l e = bounded-says h (lineFaults h scale level x) make s l e
+  -- within the bounds of the line's rule, or the number of the test that fails
+  within : (x : Line) (make : ℕ → ℕ → Found) (s l : ℤ) → judged (ruleTests h scale level x) x ≡ judged (scaleTests h s l) x → Outcome (Says x) Any (bounded h make s l)
+  within x make s l e = bounded-says h x (ruleTests h scale level x) make s l e
 
   -- a word on one ciphertext
-  one : (x : Line) (a : ℕ) (s l : ℕ → ℤ) → firstFault (lineFaults h scale level x) ≡ firstFault (boundFaults h (s (scale a)) (l (level a)))
+  one : (x : Line) (a : ℕ) (s l : ℕ → ℤ) → judged (ruleTests h scale level x) x ≡ judged (scaleTests h (s (scale a)) (l (level a))) x
       → OnOperand (Says x) (Agrees h scale level) Any a Ciphertext (onCiphertext (λ u w. bounded h Founds.Ciphertext (s u) (l w)))
   one x a s l e = on-operand h scale level (Says x) Any a (λ u w. bounded h Founds.Ciphertext (s u) (l w)) (λ b. within x Founds.Ciphertext (s (scale a)) (l (level a)) e)
 
@@ -108,7 +96,7 @@ module _ (h : Header) (scale level : ℕ → ℕ) where
 
 -- ---- the line that is refused
 pub refused-says : (h : Header) (s : List Line) → T (wellFormed Schedule h s) → (i n : ℕ) → run (checkMachine h) s ≡ stopped i n
-    → (K : KeepsRules h (take i s)) → firstFault (lineFaults h (K .scale) (K .level) (getD s i Free)) ≡ some n
+    → (K : KeepsRules h (take i s)) → judged (ruleTests h (K .scale) (K .level) (getD s i Free)) (getD s i Free) ≡ bad n
 refused-says h s t i n e K =
     let f = first-stop (checkMachine h) s i n e in
     let r = keeps-agrees h (take i s) (well-take Schedule h s i t) K in

@@ -2,7 +2,7 @@
 use Prim.Native.Nat.{ℕ, zero, suc, _<_}
 use native.Mathlib.Nat.{not-suc-le-zero, le-of-suc-le-suc}
 use mathlib.Core.Path.{_≡_, refl}
-use mathlib.Core.List.{List, [], _∷_, _++_}
+use mathlib.Core.List.{List, [], _∷_, _++_, zipWith}
 use lib.Dec.{T}
 use lib.ListN.{length, getD}
 use Rattle.model.specs.Scales.{headroom}
@@ -16,7 +16,7 @@ EndSo [] = Unit {0}
 EndSo (c ∷ cs) = (endsOf (c .asked) (c .input) ≡ c .ends) × EndSo cs
 
 machines-tested : EndSo machineCases
-unfolding headroom
+unfolding headroom zipWith
 machines-tested = (refl, (refl, (refl, (refl, (refl, (refl, (refl, (refl, (refl, tt)))))))))
 
 plans-tested : EndSo planCases

@@ -13,13 +13,13 @@ use Rattle.model.specs.declared.Line.the-variants.{Free}
 use Rattle.model.specs.declared.Grammar.the-variants.{Schedule}
 use Rattle.model.specs.declared.Kind.{Kind}
 use Rattle.model.specs.Files.{kindOf, kindAt, lineFormed, linesFormed}
-use Rattle.model.specs.Machine.{goes, Run, finished, stopped, orAbsent, heldBy, step, run}
+use Rattle.model.specs.Machine.{goes, Run, finished, stopped, heldBy, step, run}
 use Rattle.model.specs.Services.{kept, madeFrom, fateOf, renumbered, erase, keptLines}
 use Rattle.model.proofs.Statements.Erasing.{origins}
 use Rattle.model.specs.declared.Found.{Found}
 use Rattle.model.specs.Answers.{checkMachine}
 use Rattle.model.proofs.Lists.{length-snoc, found-after, found-last, found-is}
-use Rattle.model.proofs.Runs.{run-snoc}
+use Rattle.model.proofs.Runs.{orAbsent, run-snoc}
 use Rattle.model.proofs.Appended.{erase-kept, origins-kept, lines-kept, erase-struck, origins-struck, lines-struck, formed-snoc}
 
 module _ (h : Header) where

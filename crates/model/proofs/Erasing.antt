@@ -7,10 +7,10 @@ use mathlib.Core.Option.{some}
 use lib.ListN.{length, getD, getElem?}
 use Rattle.model.specs.declared.Line.{Line}
 use Rattle.model.specs.declared.Line.the-variants.{In, Const, Neg, Rot, Add, Mul, Out, Enc, Rs, Ms, Us, Free}
-use Rattle.model.specs.Machine.{Step, goes, stops, Run, finished, stopped, Machine, andThen, orAbsent, heldBy, step, countIn, runFrom, run}
+use Rattle.model.specs.Machine.{Step, goes, stops, Run, finished, stopped, Machine, andThen, heldBy, step, countIn, runFrom, run}
 use Rattle.model.specs.Services.{Fate, kept, madeFrom, fateOf, renumbered, eraseFrom, erase}
 use Rattle.model.proofs.Statements.Erasing.{originsFrom, origins}
-use Rattle.model.proofs.Runs.{stops-goes, goes-is}
+use Rattle.model.proofs.Runs.{orAbsent, stops-goes, goes-is}
 use Rattle.model.proofs.Lists.{length-snoc, found-after, found-last, All2, nil2, cons2, snoc2, map2}
 
 -- the machine that passes through the struck lines

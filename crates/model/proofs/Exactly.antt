@@ -4,7 +4,7 @@ use Prim.Native.Nat.{ℕ, _+_, _-_, _*_, _<_, _≤_}
 use native.Mathlib.Omega.{arith}
 use mathlib.Core.Path.{_≡_, refl, sym, ap, _∙_, subst}
 use mathlib.Core.Bool.{Bool, true, false, not, cond}
-use mathlib.Core.List.{List, [], map}
+use mathlib.Core.List.{List, [], map, zipWith}
 use mathlib.Core.Option.{some}
 use lib.Dec.{T, eqb, eqb→eq, not-T}
 use lib.ListN.{length, getD, getElem?}
@@ -19,8 +19,7 @@ use Rattle.model.specs.Scales.{headroom}
 use Rattle.model.specs.Files.{kindOf, isConstant}
 use Rattle.model.specs.Machine.{Step, goes, stops, finished, andThen, heldBy, step, run}
 use Rattle.model.specs.Rules.{Bounds}
-use Rattle.model.specs.Machines as machines
-use Rattle.model.specs.Machines.{Vector, Handed, Reason, levelsDiffer, scalesDiffer, remainder, belowWaterline, aboveModulus, Holding, scaled, slotwise, rotated, timesTwoTo, overTwoTo, noRemainder, stopIf, ifBounded, onScaled, scaledSum, scaledProduct, rescaled, plainMachine, scaleMachine}
+use Rattle.model.specs.Machines.{Vector, Handed, Reason, levelsDiffer, scalesDiffer, remainder, otherKind, belowWaterline, aboveModulus, Holding, scaled, rotated, timesTwoTo, overTwoTo, noRemainder, ifBounded, onScaled, scaledSum, scaledProduct, rescaled, plainMachine, scaleMachine}
 use Rattle.model.specs.Services.{erase, keptLines}
 use Rattle.model.proofs.Statements.Erasing.{origins}
 use Rattle.model.specs.declared.Found.{Found}
@@ -33,14 +32,14 @@ use Rattle.model.proofs.Bounded.{Low, High, bounded-cases, sum-cases, p
 use Rattle.model.proofs.EachLine.{Gives, then-gives, each-line}
 use Rattle.model.proofs.Erasing.{through, Holds, erased}
 use Rattle.model.proofs.KeptLines.{kept-line}
-use Rattle.model.proofs.Vectors.{length-slotwise, length-rotated, length-map-of, times-neg, times-add, times-mul, times-times, times-rotated, no-remainder, over-times, times-apart}
+use Rattle.model.proofs.Vectors.{length-zipped, length-rotated, length-map-of, times-neg, times-add, times-mul, times-times, times-rotated, no-remainder, over-times, times-apart}
 
 -- ---- the two tests of a scale
 -- where one order is tested and ifBounded, the opposite one does not
 not-below : (a b : ℤ) → T (leZ a b) → T (not (ltZ b a))
 not-below a b t = not-T (ltZ b a) (λ u. clashℤ {a = b} {b = a} (ltZ-yes u) (leZ-yes t))
 
-stop-passes : (b : Bool) (e : Reason) (r : Step Holding Reason) → T (not b) → stopIf b e r ≡ r
+stop-passes : (b : Bool) (e : Reason) (r : Step Holding Reason) → T (not b) → cond b (stops e) r ≡ r
 stop-passes true e r t = absurd t
 stop-passes false e r t = refl
 
@@ -76,7 +75,8 @@ module _ (H : Handed) (h : Header) where
   InStep r t w = Follows {E = ℕ} {D = Reason} {G = Reason} Agree r t (goes w)
 
   -- a test that both make; the check answers with n and the scale machine with e
-  same-test : (b : Bool) (n : ℕ) (e : Reason) (r : Step Found ℕ) (t : Step Holding Reason) (w : Vector) → (T b → InStep r t w) → InStep (cond b r (stops n)) (stopIf (not b) e t) w
+  same-test : (b : Bool) (n : ℕ) (e : Reason) (r : Step Found ℕ) (t : Step Holding Reason) (w : Vector) → (T b → InStep r t w)
+      → InStep (cond b r (stops n)) (cond (not b) (stops e) t) w
   same-test true n e r t w f = f tt
   same-test false n e r t w f = tt
 
@@ -133,22 +133,25 @@ module _ (H : Handed) (h : Header) where
 
   -- ---- the words
   sum-kept : (s l : ℕ) (w : Vector) → Long w → (s′ l′ : ℕ) (w′ : Vector) → Long w′
-      → InStep (sum h s l s′ l′) (scaledSum h s l (timesTwoTo s w) s′ l′ (timesTwoTo s′ w′)) (slotwise _+ℤ_ w w′)
+      → InStep (sum h s l s′ l′) (scaledSum h s l (timesTwoTo s w) s′ l′ (timesTwoTo s′ w′)) (zipWith _+ℤ_ w w′)
   sum-kept s l w n s′ l′ w′ n′ =
       same-test (eqb l l′) 7 levelsDiffer _ _ _ (λ p. same-test (eqb s s′) 8 scalesDiffer _ _ _ (λ q.
-      ciphertext-bounded (pos s) (pos l) _ (slotwise _+ℤ_ w w′) (length-slotwise _+ℤ_ w w′ n n′)
-      (ap (λ (r : ℕ). slotwise _+ℤ_ (timesTwoTo s w) (timesTwoTo r w′)) (sym (eqb→eq s s′ q)) ∙ times-add s w w′)))
+      ciphertext-bounded (pos s) (pos l) _ (zipWith _+ℤ_ w w′) (length-zipped _+ℤ_ w w′ n n′)
+      (ap (λ (r : ℕ). zipWith _+ℤ_ (timesTwoTo s w) (timesTwoTo r w′)) (sym (eqb→eq s s′ q)) ∙ times-add s w w′)))
 
   product-kept : (s l : ℕ) (w : Vector) → Long w → (s′ l′ : ℕ) (w′ : Vector) → Long w′
-      → InStep (product h s l s′ l′) (scaledProduct h s l (timesTwoTo s w) s′ l′ (timesTwoTo s′ w′)) (slotwise _*ℤ_ w w′)
+      → InStep (product h s l s′ l′) (scaledProduct h s l (timesTwoTo s w) s′ l′ (timesTwoTo s′ w′)) (zipWith _*ℤ_ w w′)
   product-kept s l w n s′ l′ w′ n′ =
       same-test (eqb l l′) 7 levelsDiffer _ _ _ (λ p.
-      ciphertext-bounded (pos (s + s′)) (pos l) _ (slotwise _*ℤ_ w w′) (length-slotwise _*ℤ_ w w′ n n′) (times-mul s s′ w w′))
+      ciphertext-bounded (pos (s + s′)) (pos l) _ (zipWith _*ℤ_ w w′) (length-zipped _*ℤ_ w w′ n n′) (times-mul s s′ w w′))
+
+  abbrev encoded : ℕ → ℕ → Holding → Step Holding Reason
+  encoded s e y = elim y [ Holding.bare v ↦ ifBounded h (pos s) (pos e) (timesTwoTo s v) | scaled t l v ↦ stops otherKind ]
 
   encoded-kept : (s e : ℕ) (x : Found) (y : Holding) (w : Vector) → Agree x y w
-      → InStep (onBare (bounded h Founds.Encoded (pos s) (pos e)) x) (machines.onBareVector (λ v. ifBounded h (pos s) (pos e) (timesTwoTo s v)) y) w
+      → InStep (onBare (bounded h Founds.Encoded (pos s) (pos e)) x) (encoded s e y) w
   encoded-kept s e Founds.Bare y w a =
-      subst (λ (y : Holding). InStep (bounded h Founds.Encoded (pos s) (pos e)) (machines.onBareVector (λ v. ifBounded h (pos s) (pos e) (timesTwoTo s v)) y) w) (sym (a .held))
+      subst (λ (y : Holding). InStep (bounded h Founds.Encoded (pos s) (pos e)) (encoded s e y) w) (sym (a .held))
       (both-bounded Founds.Encoded (λ s l y w t. t) (pos s) (pos e) (timesTwoTo s w) w (a .long) refl)
   encoded-kept s e (Founds.Encoded s′ l′) y w a = tt
   encoded-kept s e (Founds.Ciphertext s′ l′) y w a = tt
@@ -192,8 +195,8 @@ module _ (H : Handed) (h : Header) where
         neg = on-one (λ s l. pos s) (λ s l. pos l) (map negℤ) (map negℤ) (λ w. length-map-of negℤ w) (λ s l w. times-neg s w);
         rot = λ t. on-one (λ s l. pos s) (λ s l. pos l) (rotated (H .slots) t) (rotated (H .slots) t) (λ w n. length-rotated (H .slots) t w)
             (λ s l w. times-rotated s (H .slots) t w);
-        add = on-pair (sum h) (scaledSum h) (slotwise _+ℤ_) sum-kept;
-        mul = on-pair (product h) (scaledProduct h) (slotwise _*ℤ_) product-kept;
+        add = on-pair (sum h) (scaledSum h) (zipWith _+ℤ_) sum-kept;
+        mul = on-pair (product h) (scaledProduct h) (zipWith _*ℤ_) product-kept;
         out = on-one (λ s l. pos s) (λ s l. pos l) (λ v. v) (λ w. w) (λ w n. n) (λ s l w. refl);
         enc = encoded-kept;
         rs = λ c. on-ciphertext (λ s l. bounded h Founds.Ciphertext (pos s -ℤ pos (h .factor * c)) (pos l -ℤ pos c)) (rescaled h c) (λ w. w) (rescaled-kept c);

@@ -47,21 +47,24 @@ module _ (h : Header) (L : ℕ) (higher : h .top ≤ L) (F⁺ : zero < h .factor
   on-ciphertext f g k (Bests.Ciphertext p) Bests.Constant z r = absurd r
   on-ciphertext f g k (Bests.Ciphertext p) (Bests.Ciphertext q) z r = k p q r
 
-  module _ (both both′ : ℤ → ℤ → Step Best ℕ) (left left′ right right′ : ℤ → Step Best ℕ)
-      (k : (r s r′ s′ : ℤ) → Ordered r s → Ordered r′ s′ → Keeps (both r r′) (both′ s s′)) (i : (r s : ℤ) → Ordered r s → Keeps (left r) (left′ s))
-      (j : (r s : ℤ) → Ordered r s → Keeps (right r) (right′ s)) where
+  module _ (both both′ : ℤ → ℤ → Choice) (left left′ right right′ : ℤ → Choice)
+      (k : (r s r′ s′ : ℤ) → Ordered r s → Ordered r′ s′ → both r r′ .reserve ≤ℤ both′ s s′ .reserve)
+      (i : (r s : ℤ) → Ordered r s → left r .reserve ≤ℤ left′ s .reserve) (j : (r s : ℤ) → Ordered r s → right r .reserve ≤ℤ right′ s .reserve) where
     on-pair : (x y : Best) (z : Unit {0}) → More x y z → (x′ y′ : Best) (z′ : Unit {0}) → More x′ y′ z′
-        → Keeps (onReserves both left right x x′) (onReserves both′ left′ right′ y y′)
+        → Keeps (onReserves h both left right x x′) (onReserves (withTop h L) both′ left′ right′ y y′)
     on-pair Bests.Constant Bests.Constant z r Bests.Constant Bests.Constant z′ r′ = tt
     on-pair Bests.Constant Bests.Constant z r Bests.Constant (Bests.Ciphertext q) z′ r′ = absurd r′
     on-pair Bests.Constant Bests.Constant z r (Bests.Ciphertext p) Bests.Constant z′ r′ = absurd r′
-    on-pair Bests.Constant Bests.Constant z r (Bests.Ciphertext p) (Bests.Ciphertext q) z′ r′ = j (p .reserve) (q .reserve) r′
+    on-pair Bests.Constant Bests.Constant z r (Bests.Ciphertext p) (Bests.Ciphertext q) z′ r′ =
+        both-chosen (right (p .reserve)) (right′ (q .reserve)) (j (p .reserve) (q .reserve) r′)
     on-pair Bests.Constant (Bests.Ciphertext q) z r x′ y′ z′ r′ = absurd r
     on-pair (Bests.Ciphertext p) Bests.Constant z r x′ y′ z′ r′ = absurd r
-    on-pair (Bests.Ciphertext p) (Bests.Ciphertext q) z r Bests.Constant Bests.Constant z′ r′ = i (p .reserve) (q .reserve) r
+    on-pair (Bests.Ciphertext p) (Bests.Ciphertext q) z r Bests.Constant Bests.Constant z′ r′ =
+        both-chosen (left (p .reserve)) (left′ (q .reserve)) (i (p .reserve) (q .reserve) r)
     on-pair (Bests.Ciphertext p) (Bests.Ciphertext q) z r Bests.Constant (Bests.Ciphertext q′) z′ r′ = absurd r′
     on-pair (Bests.Ciphertext p) (Bests.Ciphertext q) z r (Bests.Ciphertext p′) Bests.Constant z′ r′ = absurd r′
-    on-pair (Bests.Ciphertext p) (Bests.Ciphertext q) z r (Bests.Ciphertext p′) (Bests.Ciphertext q′) z′ r′ = k (p .reserve) (q .reserve) (p′ .reserve) (q′ .reserve) r r′
+    on-pair (Bests.Ciphertext p) (Bests.Ciphertext q) z r (Bests.Ciphertext p′) (Bests.Ciphertext q′) z′ r′ =
+        both-chosen (both (p .reserve) (p′ .reserve)) (both′ (q .reserve) (q′ .reserve)) (k (p .reserve) (q .reserve) (p′ .reserve) (q′ .reserve) r r′)
 
   -- the formula of a product rises with both reserves, and so does its greatest value
   product-rises : (r s r′ s′ : ℤ) (l : ℕ) → r ≤ℤ s → r′ ≤ℤ s′ → productAt h r r′ l ≤ℤ productAt h s s′ l
@@ -107,11 +110,10 @@ module _ (h : Header) (L : ℕ) (higher : h .top ≤ L) (F⁺ : zero < h .factor
         constant = λ k. tt;
         neg = on-ciphertext _ _ again;
         rot = λ t. on-ciphertext _ _ again;
-        add = on-pair _ _ _ _ _ _
-            (λ r s r′ s′ o o′. both-chosen (unchangedChoice h (smaller r r′)) (unchangedChoice (withTop h L) (smaller s s′)) (smaller-mono r r′ s s′ (o .1) (o′ .1))) one one;
-        mul = on-pair _ _ _ _ _ _ (λ r s r′ s′ o o′. both-chosen (productChoice h r r′) (productChoice (withTop h L) s s′) (mul-rises r s r′ s′ o o′))
-            (λ r s o. both-chosen (timesConstantChoice h r) (timesConstantChoice (withTop h L) s) (less r s o))
-            (λ r s o. both-chosen (constantTimesChoice h r) (constantTimesChoice (withTop h L) s) (less r s o));
+        add = on-pair (λ r r′. unchangedChoice h (smaller r r′)) (λ s s′. unchangedChoice (withTop h L) (smaller s s′)) (unchangedChoice h) (unchangedChoice (withTop h L))
+            (unchangedChoice h) (unchangedChoice (withTop h L)) (λ r s r′ s′ o o′. smaller-mono r r′ s s′ (o .1) (o′ .1)) (λ r s o. o .1) (λ r s o. o .1);
+        mul = on-pair (productChoice h) (productChoice (withTop h L)) (timesConstantChoice h) (timesConstantChoice (withTop h L)) (constantTimesChoice h)
+            (constantTimesChoice (withTop h L)) mul-rises less less;
         out = on-ciphertext _ _ (λ p q o. o);
         enc = λ s e x y z r. tt;
         rs = λ c x y z r. tt;
@@ -122,9 +124,6 @@ module _ (h : Header) (L : ℕ) (higher : h .top ≤ L) (F⁺ : zero < h .factor
       again : (p q : Choice) → Ordered (p .reserve) (q .reserve)
           → Keeps (unlessTooFew h (unchangedChoice h (p .reserve))) (unlessTooFew (withTop h L) (unchangedChoice (withTop h L) (q .reserve)))
       again p q o = both-chosen (unchangedChoice h (p .reserve)) (unchangedChoice (withTop h L) (q .reserve)) (o .1)
-
-      one : (r s : ℤ) → Ordered r s → Keeps (unlessTooFew h (unchangedChoice h r)) (unlessTooFew (withTop h L) (unchangedChoice (withTop h L) s))
-      one r s o = both-chosen (unchangedChoice h r) (unchangedChoice (withTop h L) s) (o .1)
 
       less : (r s : ℤ) → Ordered r s → (r -ℤ pos (h .waterline)) ≤ℤ (s -ℤ pos (h .waterline))
       less r s o = omega (signed, o, parts- r (pos (h .waterline)), parts- s (pos (h .waterline)))

@@ -7,7 +7,8 @@ use lib.ListN.{length, getElem?}
 use lib.IntN.{ℤ}
 use Rattle.model.specs.declared.Line.{Line}
 use Rattle.model.specs.declared.Line.the-variants.{In, Const, Neg, Rot, Add, Mul, Out, Enc, Rs, Ms, Us, Free}
-use Rattle.model.specs.Machine.{Step, goes, stops, Run, finished, stopped, Machine, andThen, orAbsent, heldBy, step, countIn, runFrom}
+use Rattle.model.specs.Machine.{Step, goes, stops, Run, finished, stopped, Machine, andThen, heldBy, step, countIn, runFrom}
+use Rattle.model.proofs.Runs.{orAbsent}
 use Rattle.model.proofs.Lists.{All3, nil3, cons3, snoc3}
 
 module _ {X Y Z E D G : Type 0} where

@@ -12,7 +12,8 @@ use lib.ListN.{length, getD, getElem?}
 use lib.Seq.{append-snoc}
 use Rattle.model.specs.declared.Line.{Line}
 use Rattle.model.specs.declared.Line.the-variants.{Free}
-use Rattle.model.specs.Machine.{Step, goes, stops, Run, finished, stopped, Machine, andThen, orAbsent, heldBy, step, countIn, runFrom, run}
+use Rattle.model.specs.Machine.{Step, goes, stops, Run, finished, stopped, Machine, andThen, heldBy, step, countIn, runFrom, run}
+use Rattle.model.proofs.Runs.{orAbsent}
 use Rattle.model.proofs.Lists.{length-snoc, found-after, found-last}
 use Rattle.model.proofs.Tests.{cond-cases}
 

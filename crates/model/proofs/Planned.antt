@@ -18,7 +18,7 @@ use Rattle.model.specs.declared.Line.the-variants.{In, Const, Neg, Rot, 
 use Rattle.model.specs.declared.Grammar.the-variants.{Circuit, Schedule}
 use Rattle.model.specs.Scales.{headroom}
 use Rattle.model.specs.Files.{kindOf, kindAt, isUsable, inRange, everyUsable, lineFormed, linesFormed}
-use Rattle.model.specs.Machine.{Step, goes, stops, Run, finished, stopped, andThen, orAbsent, heldBy, step, countIn, runFrom, run}
+use Rattle.model.specs.Machine.{Step, goes, stops, Run, finished, stopped, andThen, heldBy, step, countIn, runFrom, run}
 use Rattle.model.specs.Rules.{Bounds}
 use Rattle.model.specs.declared.Choice.{Choice}
 use Rattle.model.specs.declared.Best.{Best}
@@ -28,7 +28,7 @@ use Rattle.model.specs.declared.Found.the-variants as Founds
 use Rattle.model.specs.Answers.{sum, product, bounded}
 use Rattle.model.proofs.Tests.{and-first, and-second, cond-true, HeaderFacts}
 use Rattle.model.proofs.Lists.{length-snoc, found-after, found-last, found-snoc, found-is}
-use Rattle.model.proofs.Runs.{stops-goes, goes-is, stopped-finished, finished-is, kept-on}
+use Rattle.model.proofs.Runs.{orAbsent, stops-goes, goes-is, stopped-finished, finished-is, kept-on}
 use Rattle.model.proofs.Bounded.{bounded-goes}
 use Rattle.model.proofs.Chosen.{unlessTooFew-elim}
 use Rattle.model.proofs.Formed.{LineFacts, line-facts}
@@ -157,8 +157,7 @@ module _ (h : Header) (H : HeaderFacts h) where
           }
 
     add-added : (a b : ℕ) (u v w : Best) → getElem? best a ≡ some u → getElem? best b ≡ some v → Ready h H lines numbers a u → Ready h H lines numbers b v
-        → onReserves (λ r r′. unlessTooFew h (unchangedChoice h (smaller r r′))) (λ r. unlessTooFew h (unchangedChoice h r))
-        (λ r. unlessTooFew h (unchangedChoice h r)) u v ≡ goes w
+        → onReserves h (λ r r′. unchangedChoice h (smaller r r′)) (unchangedChoice h) (unchangedChoice h) u v ≡ goes w
         → Added (Add a b) w
     add-added a b Bests.Constant Bests.Constant w e e′ x y s = stops-goes s
     add-added a b Bests.Constant (Bests.Ciphertext q) w e e′ x y s = by-choice (unchangedChoice h (q .reserve)) (Added (Add a b)) s
@@ -173,7 +172,7 @@ module _ (h : Header) (H : HeaderFacts h) where
         (λ o. add-grown a b e e′ x y (unchangedChoice h (smaller (q .reserve) (q′ .reserve))) tt (meets-sum h H q q′ (x .valid) (y .valid)) refl refl)
 
     mul-added : (a b : ℕ) (u v w : Best) → getElem? best a ≡ some u → getElem? best b ≡ some v → Ready h H lines numbers a u → Ready h H lines numbers b v
-        → onReserves (λ r r′. unlessTooFew h (productChoice h r r′)) (λ r. unlessTooFew h (timesConstantChoice h r)) (λ r. unlessTooFew h (constantTimesChoice h r)) u v ≡ goes w
+        → onReserves h (productChoice h) (timesConstantChoice h) (constantTimesChoice h) u v ≡ goes w
         → Added (Mul a b) w
     mul-added a b Bests.Constant Bests.Constant w e e′ x y s = stops-goes s
     mul-added a b Bests.Constant (Bests.Ciphertext q) w e e′ x y s = by-choice (constantTimesChoice h (q .reserve)) (Added (Mul a b)) s

@@ -80,7 +80,7 @@ module _ (h : Header) (i : ℕ) where
   best-one x a f k (Bests.Ciphertext p) e = k p
 
   best-two : (x : Line) (a b : ℕ) (both : ℤ → ℤ → Choice) (left right : ℤ → Choice) → ((p : Choice) → BestHolds x (Bests.Ciphertext p))
-      → OnTwo Six (OfKind bestKind) Circuit i x a b (onReserves (λ r r′. unlessTooFew h (both r r′)) (λ r. unlessTooFew h (left r)) (λ r. unlessTooFew h (right r)))
+      → OnTwo Six (OfKind bestKind) Circuit i x a b (onReserves h both left right)
   best-two x a b both left right k j l Bests.Constant Bests.Constant t e f = right-pair (5 ≡ 6) Circuit t e f tt
   best-two x a b both left right k j l Bests.Constant (Bests.Ciphertext q) t e f = is-chosen (BestHolds x) (right (q .reserve)) (k (right (q .reserve)))
   best-two x a b both left right k j l (Bests.Ciphertext p) Bests.Constant t e f = is-chosen (BestHolds x) (left (p .reserve)) (k (left (p .reserve)))

@@ -82,12 +82,12 @@ module _ (h : Header) where
     on-ciphertext f g k (Founds.Ciphertext s l) (Bests.Ciphertext p) z r = k s l p r
 
     -- two ciphertexts; a ciphertext and an encoded constant; an encoded constant and a ciphertext
-    module _ (f : ℕ → ℕ → ℕ → ℕ → Step Found ℕ) (both : ℤ → ℤ → Step Best ℕ) (left right : ℤ → Step Best ℕ)
-        (k : (s l s′ l′ : ℕ) (p q : Choice) → Within s l p → Within s′ l′ q → Keeps (f s l s′ l′) (both (p .reserve) (q .reserve)))
-        (i : (s l s′ l′ : ℕ) (p : Choice) → Within s l p → Bounds h s′ l′ → Keeps (f s l s′ l′) (left (p .reserve)))
-        (j : (s l s′ l′ : ℕ) (q : Choice) → Bounds h s l → Within s′ l′ q → Keeps (f s l s′ l′) (right (q .reserve))) where
+    module _ (f : ℕ → ℕ → ℕ → ℕ → Step Found ℕ) (both : ℤ → ℤ → Choice) (left right : ℤ → Choice)
+        (k : (s l s′ l′ : ℕ) (p q : Choice) → Within s l p → Within s′ l′ q → Keeps (f s l s′ l′) (unlessTooFew h (both (p .reserve) (q .reserve))))
+        (i : (s l s′ l′ : ℕ) (p : Choice) → Within s l p → Bounds h s′ l′ → Keeps (f s l s′ l′) (unlessTooFew h (left (p .reserve))))
+        (j : (s l s′ l′ : ℕ) (q : Choice) → Bounds h s l → Within s′ l′ q → Keeps (f s l s′ l′) (unlessTooFew h (right (q .reserve)))) where
       after-ciphertext : (s l : ℕ) (p : Choice) → Within s l p → (x′ : Found) (y′ : Best) (z′ : Unit {0}) → Bound x′ y′ z′
-          → Keeps (onPair f (Founds.Ciphertext s l) x′) (onReserves both left right (Bests.Ciphertext p) y′)
+          → Keeps (onPair f (Founds.Ciphertext s l) x′) (onReserves h both left right (Bests.Ciphertext p) y′)
       after-ciphertext s l p w Founds.Bare y′ z′ r = tt
       after-ciphertext s l p w (Founds.Encoded s′ l′) Bests.Constant z′ r = i s l s′ l′ p w r
       after-ciphertext s l p w (Founds.Encoded s′ l′) (Bests.Ciphertext q) z′ r = absurd r
@@ -95,9 +95,9 @@ module _ (h : Header) where
       after-ciphertext s l p w (Founds.Ciphertext s′ l′) (Bests.Ciphertext q) z′ r = k s l s′ l′ p q w r
 
       on-pair : (x : Found) (y : Best) (z : Unit {0}) → Bound x y z → (x′ : Found) (y′ : Best) (z′ : Unit {0}) → Bound x′ y′ z′
-          → Keeps (onPair f x x′) (onReserves both left right y y′)
+          → Keeps (onPair f x x′) (onReserves h both left right y y′)
       on-pair Founds.Bare y z r x′ y′ z′ r′ = tt
-      on-pair (Founds.Encoded s l) Bests.Constant z r x′ y′ z′ r′ = on-ciphertext (f s l) (onReserves both left right Bests.Constant) (λ s′ l′ q w. j s l s′ l′ q r w) x′ y′ z′ r′
+      on-pair (Founds.Encoded s l) Bests.Constant z r x′ y′ z′ r′ = on-ciphertext (f s l) (onReserves h both left right Bests.Constant) (λ s′ l′ q w. j s l s′ l′ q r w) x′ y′ z′ r′
       on-pair (Founds.Encoded s l) (Bests.Ciphertext p) z r x′ y′ z′ r′ = absurd r
       on-pair (Founds.Ciphertext s l) Bests.Constant z r x′ y′ z′ r′ = absurd r
       on-pair (Founds.Ciphertext s l) (Bests.Ciphertext p) z r x′ y′ z′ r′ = after-ciphertext s l p r x′ y′ z′ r′
@@ -213,10 +213,8 @@ module _ (h : Header) where
           constant = λ k. tt;
           neg = on-ciphertext _ (Plan.onBest (λ p. unlessTooFew h (unchangedChoice h (p .reserve)))) again;
           rot = λ t. on-ciphertext _ (Plan.onBest (λ p. unlessTooFew h (unchangedChoice h (p .reserve)))) again;
-          add = on-pair (sum h) (λ r r′. unlessTooFew h (unchangedChoice h (smaller r r′))) (λ r. unlessTooFew h (unchangedChoice h r))
-              (λ r. unlessTooFew h (unchangedChoice h r)) add-both add-left add-right;
-          mul = on-pair (product h) (λ r r′. unlessTooFew h (productChoice h r r′)) (λ r. unlessTooFew h (timesConstantChoice h r))
-              (λ r. unlessTooFew h (constantTimesChoice h r)) mul-both mul-left mul-right;
+          add = on-pair (sum h) (λ r r′. unchangedChoice h (smaller r r′)) (unchangedChoice h) (unchangedChoice h) add-both add-left add-right;
+          mul = on-pair (product h) (productChoice h) (timesConstantChoice h) (constantTimesChoice h) mul-both mul-left mul-right;
           out = on-ciphertext _ (Plan.onBest (λ p. goes (Bests.Ciphertext p))) (λ s l p w. unchanged (goes (Bests.Ciphertext p)) s l (λ b. w));
           enc = encodes;
           rs = λ c. on-ciphertext _ goes (rescales c);

@@ -4,13 +4,17 @@ use Prim.Native.Nat.{ℕ, suc, _+_, _<_}
 use native.Mathlib.Omega.{arith}
 use mathlib.Core.Path.{_≡_, refl, sym, ap, _∙_}
 use mathlib.Core.List.{List, [], _∷_, _++_}
-use mathlib.Core.Option.{some}
+use mathlib.Core.Option.{Option, none, some}
 use lib.ListN.{length, getElem?, take}
 use Rattle.model.specs.declared.Line.{Line}
 use Rattle.model.specs.Machine.{Step, goes, stops, Run, finished, stopped, Machine, step, countIn, runFrom, run}
 use Rattle.model.proofs.Lists.{found-after, length-snoc}
 
 module _ {X E : Type 0} where
+  -- what an operand's line holds, found or not
+  abbrev pub orAbsent : E → Option X → Step X E
+  orAbsent e o = elim o [ none ↦ stops e | some x ↦ goes x ]
+
   pub stops-goes : {P : Type 0} {e : E} {x : X} → _≡_ {A = Step X E} (stops e) (goes x) → P
   stops-goes p = absurd (let z : _≡_ {A = ℕ} 0 1 = cc in omega arith)
 

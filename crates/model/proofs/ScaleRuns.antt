@@ -3,8 +3,8 @@
 use Prim.Native.Nat.{ℕ, zero, _+_, _*_, _<_}
 use native.Mathlib.Omega.{arith}
 use mathlib.Core.Path.{_≡_, sym, ap, ap₂, _∙_, subst, subst₂}
-use mathlib.Core.Bool.{Bool, true, false, not, _||_}
-use mathlib.Core.List.{List, [], map}
+use mathlib.Core.Bool.{Bool, true, false, not, cond, _||_}
+use mathlib.Core.List.{List, [], map, zipWith}
 use mathlib.Core.Option.{some}
 use lib.Dec.{T, eqb, eqb→eq}
 use lib.ListN.{length, getD, getElem?}
@@ -20,9 +20,9 @@ use Rattle.model.specs.declared.Kind.{Kind}
 use Rattle.model.specs.declared.Kind.the-variants.{Ciphertext, Constant, Encoded, Nothing}
 use Rattle.model.specs.Scales.{headroom}
 use Rattle.model.specs.Files.{kindAt, isCiphertext, isEncoded, isUsable, wellFormed}
-use Rattle.model.specs.Machine.{Step, finished, andThen, heldBy, step, run}
+use Rattle.model.specs.Machine.{Step, stops, finished, andThen, heldBy, step, run}
 use Rattle.model.specs.Rules.{Rule, Bounds, hasScale, KeepsRules}
-use Rattle.model.specs.Machines.{Vector, Handed, Reason, levelsDiffer, scalesDiffer, remainder, belowWaterline, aboveModulus, Holding, bare, scaled, slotwise, rotated, timesTwoTo, overTwoTo, noRemainder, stopIf, ifBounded, onScaled, onBareVector, scaledSum, scaledProduct, rescaled, plainMachine, scaleMachine}
+use Rattle.model.specs.Machines.{Vector, Handed, Reason, levelsDiffer, scalesDiffer, remainder, otherKind, belowWaterline, aboveModulus, Holding, bare, scaled, rotated, timesTwoTo, overTwoTo, noRemainder, ifBounded, onScaled, scaledSum, scaledProduct, rescaled, plainMachine, scaleMachine}
 use Rattle.model.specs.declared.Found.{Found}
 use Rattle.model.specs.declared.Found.the-variants as Founds
 use Rattle.model.specs.Answers.{checkMachine}
@@ -64,12 +64,12 @@ not-not false t = t
 -- ---- what the machine's combinators come to, where P is wanted of the value
 module _ (P : Holding → Type 0) where
   -- a stop is passed where its test fails
-  on-stop : (b : Bool) (e : Reason) (r : Step Holding Reason) → (T (not b) → Outcome AnyReason P r) → Outcome AnyReason P (stopIf b e r)
+  on-stop : (b : Bool) (e : Reason) (r : Step Holding Reason) → (T (not b) → Outcome AnyReason P r) → Outcome AnyReason P (cond b (stops e) r)
   on-stop true e r k = tt
   on-stop false e r k = k tt
 
   -- a test that two numbers are equal
-  on-equal : (m n : ℕ) (e : Reason) (r : Step Holding Reason) → (m ≡ n → Outcome AnyReason P r) → Outcome AnyReason P (stopIf (not (eqb m n)) e r)
+  on-equal : (m n : ℕ) (e : Reason) (r : Step Holding Reason) → (m ≡ n → Outcome AnyReason P r) → Outcome AnyReason P (cond (not (eqb m n)) (stops e) r)
   on-equal m n e r k = on-stop (not (eqb m n)) e r (λ t. k (eqb→eq m n (not-not (eqb m n) t)))
 
   -- an heldBy that has a scale, and one that has none
@@ -77,7 +77,8 @@ module _ (P : Holding → Type 0) where
   on-scaled f (bare v) k = tt
   on-scaled f (scaled s l v) k = k v
 
-  on-bare : (f : Vector → Step Holding Reason) (y : Holding) → ((v : Vector) → Outcome AnyReason P (f v)) → Outcome AnyReason P (onBareVector f y)
+  on-bare : (f : Vector → Step Holding Reason) (y : Holding) → ((v : Vector) → Outcome AnyReason P (f v))
+      → Outcome {E = Reason} AnyReason P (elim y [ bare v ↦ f v | scaled s l v ↦ stops otherKind ])
   on-bare f (bare v) k = k v
   on-bare f (scaled s l v) k = tt
 
@@ -134,10 +135,10 @@ module _ (H : Handed) (h : Header) (W⁺ : zero < h .waterline) (final : List Ho
     ruled (Rot a n) = unary (Rot a n) a _ (λ s l v p q. holds-ruled (Rot a n) (pos s) (pos l) (rotated (H .slots) n v) (λ t r u. omega arith))
     ruled (Add a b) = binary (Add a b) a b (scaledSum h) (λ s l v s′ l′ v′ p q p′ q′.
         on-equal (Ruled h final i (Add a b)) l l′ levelsDiffer _ (λ e. on-equal (Ruled h final i (Add a b)) s s′ scalesDiffer _ (λ f.
-        holds-ruled (Add a b) (pos s) (pos l) (slotwise _+ℤ_ v v′) (λ t r u. omega arith))))
+        holds-ruled (Add a b) (pos s) (pos l) (zipWith _+ℤ_ v v′) (λ t r u. omega arith))))
     ruled (Mul a b) = binary (Mul a b) a b (scaledProduct h) (λ s l v s′ l′ v′ p q p′ q′.
         on-equal (Ruled h final i (Mul a b)) l l′ levelsDiffer _ (λ e.
-        holds-ruled (Mul a b) (pos (s + s′)) (pos l) (slotwise _*ℤ_ v v′) (λ t r u. omega arith)))
+        holds-ruled (Mul a b) (pos (s + s′)) (pos l) (zipWith _*ℤ_ v v′) (λ t r u. omega arith)))
     ruled (Out a) = unary (Out a) a _ (λ s l v p q. holds-ruled (Out a) (pos s) (pos l) v (λ t r u. omega arith))
     ruled (Enc a s e) = one (Enc a s e) a _ (λ y p q. on-bare (Ruled h final i (Enc a s e)) (λ v. ifBounded h (pos s) (pos e) (timesTwoTo s v)) y (λ v.
         holds-ruled (Enc a s e) (pos s) (pos e) (timesTwoTo s v) (λ t r u. (r, u))))

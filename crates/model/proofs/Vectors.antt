@@ -5,20 +5,21 @@ use native.Mathlib.Nat.{mul-div-right, mul-mod-right, mul-comm, zero-div}
 use native.Mathlib.Omega.{arith}
 use mathlib.Core.Path.{_≡_, refl, sym, ap, _∙_, fun-ext}
 use mathlib.Core.Bool.{true}
-use mathlib.Core.List.{[], _∷_, map}
+use mathlib.Core.List.{[], _∷_, map, zipWith}
 use lib.Dec.{eqb}
 use lib.ListN.{length, getD, length-map, List·getD-map}
 use lib.IntN.{ℤ, pos, negsuc, negℤ, natAbs, _+ℤ_, _*ℤ_, *ℤ-zero}
 use lib.Signed.{quotZ, remZ}
 use lib.Pow.{pow-add, pow-pos}
 use Rattle.ints.proofs.Ring.{*ℤ-assoc, *ℤ-distrib-left, *ℤ-neg, *ℤ-factors-out}
-use Rattle.model.specs.Machines.{Vector, slotwise, modulo, tabulate, rotated, timesTwoTo, overTwoTo, noRemainder}
+use Rattle.model.specs.Machines.{Vector, modulo, tabulate, rotated, timesTwoTo, overTwoTo, noRemainder}
 
 -- ---- lengths
-pub length-slotwise : (f : ℤ → ℤ → ℤ) {n : ℕ} (u v : Vector) → length u ≡ n → length v ≡ n → length (slotwise f u v) ≡ n
-length-slotwise f {n} u v p q = same u v (p ∙ sym q) ∙ p
+pub length-zipped : (f : ℤ → ℤ → ℤ) {n : ℕ} (u v : Vector) → length u ≡ n → length v ≡ n → length (zipWith f u v) ≡ n
+unfolding zipWith
+length-zipped f {n} u v p q = same u v (p ∙ sym q) ∙ p
   where
-    same : (u v : Vector) → length u ≡ length v → length (slotwise f u v) ≡ length u
+    same : (u v : Vector) → length u ≡ length v → length (zipWith f u v) ≡ length u
     same [] v e = refl
     same (x ∷ u) [] e = sym e
     same (x ∷ u) (y ∷ v) e = ap suc (same u v (omega arith))
@@ -41,12 +42,14 @@ pub times-neg : (k : ℕ) (v : Vector) → map negℤ (timesTwoTo k v) ≡ times
 times-neg k [] = refl
 times-neg k (x ∷ v) = λ i. sym (*ℤ-neg (power k) x) i ∷ times-neg k v i
 
-pub times-add : (k : ℕ) (u v : Vector) → slotwise _+ℤ_ (timesTwoTo k u) (timesTwoTo k v) ≡ timesTwoTo k (slotwise _+ℤ_ u v)
+pub times-add : (k : ℕ) (u v : Vector) → zipWith _+ℤ_ (timesTwoTo k u) (timesTwoTo k v) ≡ timesTwoTo k (zipWith _+ℤ_ u v)
+unfolding zipWith
 times-add k [] v = refl
 times-add k (x ∷ u) [] = refl
 times-add k (x ∷ u) (y ∷ v) = λ i. sym (*ℤ-distrib-left (power k) x y) i ∷ times-add k u v i
 
-pub times-mul : (j k : ℕ) (u v : Vector) → slotwise _*ℤ_ (timesTwoTo j u) (timesTwoTo k v) ≡ timesTwoTo (j + k) (slotwise _*ℤ_ u v)
+pub times-mul : (j k : ℕ) (u v : Vector) → zipWith _*ℤ_ (timesTwoTo j u) (timesTwoTo k v) ≡ timesTwoTo (j + k) (zipWith _*ℤ_ u v)
+unfolding zipWith
 times-mul j k [] v = refl
 times-mul j k (x ∷ u) [] = refl
 times-mul j k (x ∷ u) (y ∷ v) = λ i. slot i ∷ times-mul j k u v i

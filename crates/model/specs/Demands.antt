@@ -21,7 +21,8 @@ use Rattle.model.specs.Services.{erase, keptLines}
 
 -- Demand 3: "no schedule of whatever length, however cleverly its scale operations are placed, keeps the rules of 2 and erases to that
 -- circuit at that rescale factor, waterline and top level". Document 01: "a schedule may have any number of lines and operand numbers of
--- any length; all else about a schedule stays, its header numbers being the circuit's". The numbers of a `Line` are natural numbers here.
+-- any length; all else about a schedule stays, its header numbers being the circuit's". The numbers of a `Line`
+-- have no width here.
 pub record Schedulable (h : Header) (circuit : List Line) : Type 0 where
   pub schedule : List Line
   pub formed : T (wellFormed Schedule h schedule)

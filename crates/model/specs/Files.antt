@@ -17,7 +17,7 @@ use Rattle.model.specs.declared.Grammar.{Grammar}
 use Rattle.model.specs.declared.Grammar.the-variants.{Circuit, Schedule}
 use Rattle.model.specs.declared.Kind.{Kind}
 use Rattle.model.specs.declared.Kind.the-variants.{Ciphertext, Constant, Encoded, Nothing}
-use Rattle.model.specs.declared.Word as Words
+use Rattle.model.specs.declared.Word.the-variants as Words
 use Rattle.model.specs.declared.Word.{Word}
 use Rattle.model.specs.Scales.{headerInRange}
 use Rattle.model.specs.Words.{Entry, Asks, noOperand, aCiphertext, aConstant, aPair, entry, hasWord, operandsAmong}
@@ -29,18 +29,18 @@ limit Schedule = 1792
 
 -- A line's word and the numbers in the fields after it.
 abbrev pub said : Line → Said Word
-said In = saying Words.the-variants.In []
-said (Const k) = saying Words.the-variants.Const (pos k ∷ [])
-said (Neg a) = saying Words.the-variants.Neg (pos a ∷ [])
-said (Rot a t) = saying Words.the-variants.Rot (pos a ∷ t ∷ [])
-said (Add a b) = saying Words.the-variants.Add (pos a ∷ pos b ∷ [])
-said (Mul a b) = saying Words.the-variants.Mul (pos a ∷ pos b ∷ [])
-said (Out a) = saying Words.the-variants.Out (pos a ∷ [])
-said (Enc a s e) = saying Words.the-variants.Enc (pos a ∷ pos s ∷ pos e ∷ [])
-said (Rs a c) = saying Words.the-variants.Rs (pos a ∷ pos c ∷ [])
-said (Ms a c) = saying Words.the-variants.Ms (pos a ∷ pos c ∷ [])
-said (Us a b) = saying Words.the-variants.Us (pos a ∷ pos b ∷ [])
-said Free = saying Words.the-variants.NoWord []
+said In = saying Words.In []
+said (Const k) = saying Words.Const (pos k ∷ [])
+said (Neg a) = saying Words.Neg (pos a ∷ [])
+said (Rot a t) = saying Words.Rot (pos a ∷ t ∷ [])
+said (Add a b) = saying Words.Add (pos a ∷ pos b ∷ [])
+said (Mul a b) = saying Words.Mul (pos a ∷ pos b ∷ [])
+said (Out a) = saying Words.Out (pos a ∷ [])
+said (Enc a s e) = saying Words.Enc (pos a ∷ pos s ∷ pos e ∷ [])
+said (Rs a c) = saying Words.Rs (pos a ∷ pos c ∷ [])
+said (Ms a c) = saying Words.Ms (pos a ∷ pos c ∷ [])
+said (Us a b) = saying Words.Us (pos a ∷ pos b ∷ [])
+said Free = saying Words.NoWord []
 
 -- The line of a word and its numbers. A number that is missing is 0, and one that has a sign where there is none is cut off; no reading
 -- meets either.
@@ -48,18 +48,18 @@ abbrev pub nth : List ℤ → ℕ → ℕ
 nth ns i = positive (getD ns i (pos 0))
 
 abbrev pub lineOf : Word → List ℤ → Line
-lineOf Words.the-variants.In ns = In
-lineOf Words.the-variants.Const ns = Const (nth ns 0)
-lineOf Words.the-variants.Neg ns = Neg (nth ns 0)
-lineOf Words.the-variants.Rot ns = Rot (nth ns 0) (getD ns 1 (pos 0))
-lineOf Words.the-variants.Add ns = Add (nth ns 0) (nth ns 1)
-lineOf Words.the-variants.Mul ns = Mul (nth ns 0) (nth ns 1)
-lineOf Words.the-variants.Out ns = Out (nth ns 0)
-lineOf Words.the-variants.Enc ns = Enc (nth ns 0) (nth ns 1) (nth ns 2)
-lineOf Words.the-variants.Rs ns = Rs (nth ns 0) (nth ns 1)
-lineOf Words.the-variants.Ms ns = Ms (nth ns 0) (nth ns 1)
-lineOf Words.the-variants.Us ns = Us (nth ns 0) (nth ns 1)
-lineOf Words.the-variants.NoWord ns = Free
+lineOf Words.In ns = In
+lineOf Words.Const ns = Const (nth ns 0)
+lineOf Words.Neg ns = Neg (nth ns 0)
+lineOf Words.Rot ns = Rot (nth ns 0) (getD ns 1 (pos 0))
+lineOf Words.Add ns = Add (nth ns 0) (nth ns 1)
+lineOf Words.Mul ns = Mul (nth ns 0) (nth ns 1)
+lineOf Words.Out ns = Out (nth ns 0)
+lineOf Words.Enc ns = Enc (nth ns 0) (nth ns 1) (nth ns 2)
+lineOf Words.Rs ns = Rs (nth ns 0) (nth ns 1)
+lineOf Words.Ms ns = Ms (nth ns 0) (nth ns 1)
+lineOf Words.Us ns = Us (nth ns 0) (nth ns 1)
+lineOf Words.NoWord ns = Free
 
 -- ---- what is read off the word's row
 abbrev pub wordOf : Line → Word
@@ -71,10 +71,6 @@ rowOf x = entry (wordOf x)
 -- "Circuit: header … then … lines", "Schedule: … those above and …": the word is one of the file's.
 abbrev pub isWord : Grammar → Line → Bool
 isWord g x = hasWord g (wordOf x)
-
--- "the lines with circuit words"
-abbrev pub isCircuitWord : Line → Bool
-isCircuitWord x = isWord Circuit x
 
 -- The value numbers that a line names, in their order.
 abbrev pub operands : Line → List ℕ
@@ -113,10 +109,7 @@ isEncoded Nothing = false
 
 -- "A and B name earlier lines that are not `out`."
 abbrev pub isUsable : Kind → Bool
-isUsable Ciphertext = true
-isUsable Constant = true
-isUsable Encoded = true
-isUsable Nothing = false
+isUsable k = isCiphertext k || isConstant k || isEncoded k
 
 abbrev pub everyUsable : List Line → List ℕ → Bool
 everyUsable before [] = true

@@ -2,14 +2,15 @@
 -- Files) and the section on the rules in three (Machine, Rules, Machines), and the demands' own terms in Demands.
 pub mod Scales
 pub mod Words
-pub mod Numbering
 pub mod Files
 pub mod Machine
 pub mod Rules
 pub mod Machines
 pub mod Plan
 pub mod Services
-pub mod Answers
 pub mod Broken
 pub mod Demands
+-- apart from these, what code and proofs use, and worked cases
+pub mod Numbering
+pub mod Answers
 pub mod Worked

@@ -3,7 +3,7 @@
 use Prim.Native.Nat.{ℕ, suc}
 use mathlib.Core.Bool.{cond, _&&_}
 use mathlib.Core.List.{List, [], _∷_, _++_}
-use mathlib.Core.Option.{Option, none, some}
+use mathlib.Core.Option.{none, some}
 use lib.Dec.{eqb}
 use lib.ListN.{length, getElem?}
 use lib.IntN.{ℤ}
@@ -38,19 +38,19 @@ pub record Machine (X E : Type 0) : Type 0 where
   pub ms : X → ℕ → Step X E
   pub us : X → ℕ → Step X E
 
+-- the `in` lines up to and with this line: no other ciphertext is made from no operand
+abbrev pub countIn : Line → ℕ → ℕ
+countIn x n = cond (isCiphertext (kindOf x) && eqb (length (operands x)) 0) (suc n) n
+
 module _ {X E : Type 0} where
   -- the first step's value handed to the second, unless it stops
   abbrev pub andThen : {Y : Type 0} → Step X E → (X → Step Y E) → Step Y E
   andThen (goes x) f = f x
   andThen (stops e) f = stops e
 
-  abbrev pub orAbsent : E → Option X → Step X E
-  orAbsent e none = stops e
-  orAbsent e (some x) = goes x
-
   -- what the line that an operand names holds
   abbrev pub heldBy : Machine X E → List X → ℕ → Step X E
-  heldBy M held a = orAbsent (M .absent) (getElem? held a)
+  heldBy M held a = elim (getElem? held a) [ none ↦ stops (M .absent) | some x ↦ goes x ]
 
   -- one line, where `ins` counts the `in` lines before it and `held` is what the lines before it hold
   abbrev pub step : Machine X E → ℕ → List X → Line → Step X E
@@ -67,11 +67,6 @@ module _ {X E : Type 0} where
   step M ins held (Us a b) = andThen (heldBy M held a) (λ x. M .us x b)
   step M ins held Free = stops (M .absent)
 
--- the `in` lines up to and with this line: no other ciphertext is made from no operand
-abbrev pub countIn : Line → ℕ → ℕ
-countIn x n = cond (isCiphertext (kindOf x) && eqb (length (operands x)) 0) (suc n) n
-
-module _ {X E : Type 0} where
   -- the lines xs, after lines that hold `held` and have `ins` inputs
   abbrev pub runFrom : Machine X E → ℕ → List X → List Line → Run X E
   runFrom M ins held [] = finished held

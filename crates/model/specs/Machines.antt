@@ -1,8 +1,8 @@
 -- Document 01, "The rules of a line": the plain machine and the scale machine.
 use Prim.Native.Nat.{ℕ, zero, suc, _+_, _-_, _*_, _%_, _^_, _≤_}
 use mathlib.Core.Path.{_≡_}
-use mathlib.Core.Bool.{Bool, true, false, not, _&&_}
-use mathlib.Core.List.{List, [], _∷_, map}
+use mathlib.Core.Bool.{Bool, true, cond, not, _&&_}
+use mathlib.Core.List.{List, [], _∷_, map, zipWith}
 use lib.Dec.{eqb}
 use lib.ListN.{length, getD}
 use lib.IntN.{ℤ, pos, negsuc, negℤ, natAbs, _+ℤ_, _-ℤ_, _*ℤ_}
@@ -25,12 +25,6 @@ pub record Handed : Type 0 where
   pub constants : ℕ → Vector
   pub inputs-long : (k : ℕ) → length (inputs k) ≡ slots
   pub constants-long : (k : ℕ) → length (constants k) ≡ slots
-
--- "slot by slot"
-abbrev pub slotwise : (ℤ → ℤ → ℤ) → Vector → Vector → Vector
-slotwise f [] ys = []
-slotwise f (x ∷ xs) [] = []
-slotwise f (x ∷ xs) (y ∷ ys) = f x y ∷ slotwise f xs ys
 
 -- z modulo n, from 0 to n − 1
 abbrev pub modulo : ℤ → ℕ → ℕ
@@ -73,8 +67,8 @@ plainMachine H =
       constant = λ k. goes (H .constants k);
       neg = λ v. goes (map negℤ v);
       rot = λ v t. goes (rotated (H .slots) t v);
-      add = λ v w. goes (slotwise _+ℤ_ v w);
-      mul = λ v w. goes (slotwise _*ℤ_ v w);
+      add = λ v w. goes (zipWith _+ℤ_ v w);
+      mul = λ v w. goes (zipWith _*ℤ_ v w);
       out = λ v. goes v;
       enc = λ v s e. stops otherWord;
       rs = λ v c. stops otherWord;
@@ -87,38 +81,30 @@ pub data Holding : Type 0 where
   bare : Vector → Holding
   scaled : ℕ → ℕ → Vector → Holding
 
-abbrev pub stopIf : Bool → Reason → Step Holding Reason → Step Holding Reason
-stopIf true e r = stops e
-stopIf false e r = r
-
 -- "It stops … at a scale above F·level or below W." A scale or a level that `rs` or `ms` takes below zero is a negative number here.
 abbrev pub ifBounded : Header → ℤ → ℤ → Vector → Step Holding Reason
 ifBounded h s l v =
-    stopIf (ltZ s (pos (h .waterline))) belowWaterline
-    (stopIf (ltZ (pos (h .factor) *ℤ l) (s +ℤ pos (headroom h))) aboveModulus
+    cond (ltZ s (pos (h .waterline))) (stops belowWaterline)
+    (cond (ltZ (pos (h .factor) *ℤ l) (s +ℤ pos (headroom h))) (stops aboveModulus)
     (goes (scaled (positive s) (positive l) v)))
 
 abbrev pub onScaled : (ℕ → ℕ → Vector → Step Holding Reason) → Holding → Step Holding Reason
 onScaled f (bare v) = stops otherKind
 onScaled f (scaled s l v) = f s l v
 
-abbrev pub onBareVector : (Vector → Step Holding Reason) → Holding → Step Holding Reason
-onBareVector f (bare v) = f v
-onBareVector f (scaled s l v) = stops otherKind
-
 -- "It stops at a mismatch (levels that differ in `add` or `mul`, scales that differ in `add`, a remainder in `rs`)"
 abbrev pub scaledSum : Header → ℕ → ℕ → Vector → ℕ → ℕ → Vector → Step Holding Reason
 scaledSum h s l v s′ l′ v′ =
-    stopIf (not (eqb l l′)) levelsDiffer
-    (stopIf (not (eqb s s′)) scalesDiffer (ifBounded h (pos s) (pos l) (slotwise _+ℤ_ v v′)))
+    cond (not (eqb l l′)) (stops levelsDiffer)
+    (cond (not (eqb s s′)) (stops scalesDiffer) (ifBounded h (pos s) (pos l) (zipWith _+ℤ_ v v′)))
 
 abbrev pub scaledProduct : Header → ℕ → ℕ → Vector → ℕ → ℕ → Vector → Step Holding Reason
 scaledProduct h s l v s′ l′ v′ =
-    stopIf (not (eqb l l′)) levelsDiffer (ifBounded h (pos (s + s′)) (pos l) (slotwise _*ℤ_ v v′))
+    cond (not (eqb l l′)) (stops levelsDiffer) (ifBounded h (pos (s + s′)) (pos l) (zipWith _*ℤ_ v v′))
 
 abbrev pub rescaled : Header → ℕ → ℕ → ℕ → Vector → Step Holding Reason
 rescaled h c s l v =
-    stopIf (not (noRemainder (h .factor * c) v)) remainder
+    cond (not (noRemainder (h .factor * c) v)) (stops remainder)
     (ifBounded h (pos s -ℤ pos (h .factor * c)) (pos l -ℤ pos c) (overTwoTo (h .factor * c) v))
 
 -- "The scale machine runs a schedule and keeps scales and levels too, as the rules above move them; `enc` has scale S, level E. `in`
@@ -135,7 +121,7 @@ scaleMachine H h =
       add = λ x y. onScaled (λ s l v. onScaled (scaledSum h s l v) y) x;
       mul = λ x y. onScaled (λ s l v. onScaled (scaledProduct h s l v) y) x;
       out = λ x. onScaled (λ s l v. ifBounded h (pos s) (pos l) v) x;
-      enc = λ x s e. onBareVector (λ v. ifBounded h (pos s) (pos e) (timesTwoTo s v)) x;
+      enc = λ x s e. elim x [ bare v ↦ ifBounded h (pos s) (pos e) (timesTwoTo s v) | scaled t l v ↦ stops otherKind ];
       rs = λ x c. onScaled (rescaled h c) x;
       ms = λ x c. onScaled (λ s l v. ifBounded h (pos s) (pos l -ℤ pos c) v) x;
       us = λ x b. onScaled (λ s l v. ifBounded h (pos (s + b)) (pos l) (timesTwoTo b v)) x;

@@ -5,7 +5,7 @@ use lib.Dec.{eqb}
 use Rattle.model.specs.declared.Word.{Word}
 use Rattle.model.specs.declared.Word.the-variants.{In, Const, Neg, Rot, Add, Mul, Out, Enc, Rs, Ms, Us, NoWord}
 
--- the place of a word in `Words.words`
+-- the place of a word in `Words.words`, and one past them for no word
 abbrev pub order : Word → ℕ
 order In = 0
 order Const = 1

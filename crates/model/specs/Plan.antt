@@ -50,7 +50,7 @@ abbrev pub timesConstantChoice : Header → ℤ → Choice
 timesConstantChoice h r = firstUnchanged h r (lowestLevel h r)
 
 abbrev pub constantTimesChoice : Header → ℤ → Choice
-constantTimesChoice h r = swapped (firstUnchanged h r (lowestLevel h r))
+constantTimesChoice h r = swapped (timesConstantChoice h r)
 
 -- "`mul` of two ciphertexts with m's unequal: at the smaller m; the operand of smaller reserve r keeps it, the other comes to scale
 -- W; new reserve r − W."
@@ -64,12 +64,8 @@ sameLevelChoice h r r′ m = record { level = m; reserve = r +ℤ r′ -ℤ pos 
 -- "or F·(m − 1) − 2·W at level m − 1 with both operands at scale W." Here m is at least 1, since r + W is.
 abbrev pub levelBelowChoice : Header → ℕ → Choice
 levelBelowChoice h m =
-    record {
-      level = m - 1;
-      reserve = pos (modulus h (m - 1)) -ℤ pos (2 * h .waterline);
-      first = atWaterline h (m - 1);
-      second = atWaterline h (m - 1);
-    }
+    let l = m - 1 in
+    record { level = l; reserve = pos (modulus h l) -ℤ pos (2 * h .waterline); first = atWaterline h l; second = atWaterline h l }
 
 -- "The greater; if equal, the lower level."
 abbrev pub greaterElseLower : Choice → Choice → Choice
@@ -77,9 +73,9 @@ greaterElseLower lower higher = cond (ltZ (lower .reserve) (higher .reserve)) hi
 
 abbrev pub productChoice : Header → ℤ → ℤ → Choice
 productChoice h r r′ =
-    cond (eqb (lowestLevel h r) (lowestLevel h r′))
-    (greaterElseLower (levelBelowChoice h (lowestLevel h r)) (sameLevelChoice h r r′ (lowestLevel h r)))
-    (unequalChoice h r r′ (min (lowestLevel h r) (lowestLevel h r′)))
+    let m = lowestLevel h r in
+    let m′ = lowestLevel h r′ in
+    cond (eqb m m′) (greaterElseLower (levelBelowChoice h m) (sameLevelChoice h r r′ m)) (unequalChoice h r r′ (min m m′))
 
 -- "The best reserve may come out below zero; then the circuit is refused at that line."
 abbrev pub unlessTooFew : Header → Choice → Step Best ℕ
@@ -89,12 +85,12 @@ abbrev pub onBest : (Choice → Step Best ℕ) → Best → Step Best ℕ
 onBest f Bests.Constant = stops 5
 onBest f (Bests.Ciphertext p) = f p
 
--- both: on two ciphertexts' reserves; left, right: on the reserve of the one ciphertext, in the first or in the second place
-abbrev pub onReserves : (ℤ → ℤ → Step Best ℕ) → (ℤ → Step Best ℕ) → (ℤ → Step Best ℕ) → Best → Best → Step Best ℕ
-onReserves both left right Bests.Constant Bests.Constant = stops 5
-onReserves both left right Bests.Constant (Bests.Ciphertext q) = right (q .reserve)
-onReserves both left right (Bests.Ciphertext p) Bests.Constant = left (p .reserve)
-onReserves both left right (Bests.Ciphertext p) (Bests.Ciphertext q) = both (p .reserve) (q .reserve)
+-- both: the choice for two ciphertexts' reserves; left, right: for the reserve of the one ciphertext, in the first or in the second place
+abbrev pub onReserves : Header → (ℤ → ℤ → Choice) → (ℤ → Choice) → (ℤ → Choice) → Best → Best → Step Best ℕ
+onReserves h both left right Bests.Constant Bests.Constant = stops 5
+onReserves h both left right Bests.Constant (Bests.Ciphertext q) = unlessTooFew h (right (q .reserve))
+onReserves h both left right (Bests.Ciphertext p) Bests.Constant = unlessTooFew h (left (p .reserve))
+onReserves h both left right (Bests.Ciphertext p) (Bests.Ciphertext q) = unlessTooFew h (both (p .reserve) (q .reserve))
 
 -- "Work through the circuit in order." The best reserve of each line, or 6 at the first whose best reserve is below zero. The stops
 -- with 1, 4 and 5 are for lines that no well-formed circuit has.
@@ -106,10 +102,8 @@ bestMachine h =
       constant = λ k. goes Bests.Constant;
       neg = λ x. onBest (λ p. unlessTooFew h (unchangedChoice h (p .reserve))) x;
       rot = λ x t. onBest (λ p. unlessTooFew h (unchangedChoice h (p .reserve))) x;
-      add = λ x y. onReserves (λ r r′. unlessTooFew h (unchangedChoice h (smaller r r′))) (λ r. unlessTooFew h (unchangedChoice h r))
-          (λ r. unlessTooFew h (unchangedChoice h r)) x y;
-      mul = λ x y. onReserves (λ r r′. unlessTooFew h (productChoice h r r′)) (λ r. unlessTooFew h (timesConstantChoice h r))
-          (λ r. unlessTooFew h (constantTimesChoice h r)) x y;
+      add = λ x y. onReserves h (λ r r′. unchangedChoice h (smaller r r′)) (unchangedChoice h) (unchangedChoice h) x y;
+      mul = λ x y. onReserves h (productChoice h) (timesConstantChoice h) (constantTimesChoice h) x y;
       -- "`out` names the value as it is"
       out = λ x. onBest (λ p. goes (Bests.Ciphertext p)) x;
       enc = λ x s e. stops 1;
@@ -161,13 +155,10 @@ choiceOf (Bests.Ciphertext p) = p
 
 -- best: of each circuit line; names: for each circuit line so far its value number in the schedule
 module _ (h : Header) (best : List Best) (names : List ℕ) where
-  abbrev pub scheduledAs : ℕ → ℕ
-  scheduledAs a = getD names a 0
-
   -- operand a at the line's level and reserve r
   abbrev pub operandTo : Choice → ℤ → ℕ → List Line → Draft
   operandTo p r a lines =
-      supply h (getD best a Bests.Constant) r (p .level) (record { lines = lines; number = scheduledAs a })
+      supply h (getD best a Bests.Constant) r (p .level) (record { lines = lines; number = getD names a 0 })
 
   abbrev pub planOne : Choice → (ℕ → Line) → ℕ → List Line → Draft
   planOne p word a lines =
@@ -189,7 +180,7 @@ module _ (h : Header) (best : List Best) (names : List ℕ) where
   planLine p (Rot a t) lines = planOne p (λ i. Rot i t) a lines
   planLine p (Add a b) lines = planTwo p Add a b lines
   planLine p (Mul a b) lines = planTwo p Mul a b lines
-  planLine p (Out a) lines = emit lines (Out (scheduledAs a))
+  planLine p (Out a) lines = emit lines (Out (getD names a 0))
   planLine p (Enc a s e) lines = emit lines (Enc a s e)
   planLine p (Rs a c) lines = emit lines (Rs a c)
   planLine p (Ms a c) lines = emit lines (Ms a c)

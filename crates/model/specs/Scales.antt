@@ -13,7 +13,7 @@ headerFields = ranged 1 60 ∷ ranged 1 60 ∷ ranged 1 60 ∷ []
 abbrev pub headerNumbers : Header → List ℤ
 headerNumbers h = pos (h .factor) ∷ pos (h .waterline) ∷ pos (h .top) ∷ []
 
--- no field of a header is a level, so the top level handed on is not asked
+-- no range of these fields goes up to the top level, so any may be handed on
 abbrev pub headerInRange : Header → Bool
 headerInRange h = allInRange 0 headerFields (headerNumbers h)
 
@@ -26,7 +26,7 @@ abbrev pub reserve : Header → ℕ → ℕ → ℤ
 reserve h s l = pos (modulus h l) -ℤ pos s
 
 -- The reserve that must be left: none. "scale ≤ F·level" is scale + headroom h ≤ modulus h level, and a best reserve is "below zero" where
--- it is below this. Only the worked cases compute it; a theorem says that the bounds are W ≤ scale ≤ F·level.
+-- it is below this. It is computed by the worked cases, and by the theorem that the bounds are W ≤ scale ≤ F·level (Statements/Bounds).
 unfoldable pub headroom : Header → ℕ
 headroom h = 0
 

@@ -4,9 +4,9 @@ use mathlib.Core.Bool.{cond, not, _&&_}
 use mathlib.Core.List.{List, [], _∷_, _++_}
 use lib.ListN.{getD}
 use Rattle.model.specs.declared.Line.{Line}
-use Rattle.model.specs.declared.Grammar.the-variants.{Schedule}
+use Rattle.model.specs.declared.Grammar.the-variants.{Circuit, Schedule}
 use Rattle.rows.specs.Rows.{placeOf}
-use Rattle.model.specs.Files.{File, said, lineOf, wordOf, rowOf, isWord, isCircuitWord, operands}
+use Rattle.model.specs.Files.{File, said, lineOf, wordOf, rowOf, isWord, operands}
 use Rattle.model.specs.Words.{renumber}
 use Rattle.model.specs.Machine.{finished, stopped, run}
 use Rattle.model.specs.Plan.{bestMachine, planLines}
@@ -18,7 +18,7 @@ pub data Fate : Type 0 where
 
 -- "Erasing keeps the lines with circuit words"; demand 2: "striking out the encode, rescale, modswitch and upscale lines", a schedule's own
 abbrev pub fateOf : Line → Fate
-fateOf x = cond (isWord Schedule x && not (isCircuitWord x)) (madeFrom (getD (operands x) 0 0)) kept
+fateOf x = cond (isWord Schedule x && not (isWord Circuit x)) (madeFrom (getD (operands x) 0 0)) kept
 
 -- A line that names other values.
 abbrev pub renamed : (ℕ → ℕ) → Line → Line

@@ -35,28 +35,28 @@ pub record Entry : Type 0 where
   pub asks : Asks
 
 -- "Schedule: … those above and …": a circuit's word, which a schedule has too; a schedule's own
-abbrev pub shared : List ℕ → List Holds → Kind → Asks → Entry
-shared b fs k a = record { bytes = b; circuit = true; schedule = true; fields = fs; kind = k; asks = a }
+abbrev pub shared : String → List Holds → Kind → Asks → Entry
+shared word fs k a = record { bytes = ascii word; circuit = true; schedule = true; fields = fs; kind = k; asks = a }
 
-abbrev pub own : List ℕ → List Holds → Kind → Asks → Entry
-own b fs k a = record { bytes = b; circuit = false; schedule = true; fields = fs; kind = k; asks = a }
+abbrev pub own : String → List Holds → Kind → Asks → Entry
+own word fs k a = record { bytes = ascii word; circuit = false; schedule = true; fields = fs; kind = k; asks = a }
 
 -- Circuit: "`in`: a ciphertext input. `const K`: constant number K, 0 to 65535 … `neg A`. `rot A T` … T from −32767 to 32767. `add A B`.
 -- `mul A B`. `out A`." Schedule: "those above and `enc A S E` (constant A encoded at scale S, 1 to 3600, level E, 1 to L), `rs A C` (C
 -- rescales, 1 to 60), `ms A C` (C modswitches, 1 to 60), `us A B` (scale raised by B bits, 1 to 3600)." "Kinds: `neg`, `rot`, `out`, `rs`,
 -- `ms`, `us` take a ciphertext and `enc` a constant. `add` and `mul` take two ciphertexts, or …"
 abbrev pub entry : Word → Entry
-entry In = shared (ascii "in") [] Ciphertext noOperand
-entry Const = shared (ascii "const") (ranged 0 65535 ∷ []) Constant noOperand
-entry Neg = shared (ascii "neg") (operand ∷ []) Ciphertext aCiphertext
-entry Rot = shared (ascii "rot") (operand ∷ amount 32767 ∷ []) Ciphertext aCiphertext
-entry Add = shared (ascii "add") (operand ∷ operand ∷ []) Ciphertext aPair
-entry Mul = shared (ascii "mul") (operand ∷ operand ∷ []) Ciphertext aPair
-entry Out = shared (ascii "out") (operand ∷ []) Nothing aCiphertext
-entry Enc = own (ascii "enc") (operand ∷ ranged 1 3600 ∷ upToTop ∷ []) Encoded aConstant
-entry Rs = own (ascii "rs") (operand ∷ ranged 1 60 ∷ []) Ciphertext aCiphertext
-entry Ms = own (ascii "ms") (operand ∷ ranged 1 60 ∷ []) Ciphertext aCiphertext
-entry Us = own (ascii "us") (operand ∷ ranged 1 3600 ∷ []) Ciphertext aCiphertext
+entry In = shared "in" [] Ciphertext noOperand
+entry Const = shared "const" (ranged 0 65535 ∷ []) Constant noOperand
+entry Neg = shared "neg" (operand ∷ []) Ciphertext aCiphertext
+entry Rot = shared "rot" (operand ∷ amount 32767 ∷ []) Ciphertext aCiphertext
+entry Add = shared "add" (operand ∷ operand ∷ []) Ciphertext aPair
+entry Mul = shared "mul" (operand ∷ operand ∷ []) Ciphertext aPair
+entry Out = shared "out" (operand ∷ []) Nothing aCiphertext
+entry Enc = own "enc" (operand ∷ ranged 1 3600 ∷ upToTop ∷ []) Encoded aConstant
+entry Rs = own "rs" (operand ∷ ranged 1 60 ∷ []) Ciphertext aCiphertext
+entry Ms = own "ms" (operand ∷ ranged 1 60 ∷ []) Ciphertext aCiphertext
+entry Us = own "us" (operand ∷ ranged 1 3600 ∷ []) Ciphertext aCiphertext
 entry NoWord = record { bytes = []; circuit = false; schedule = false; fields = []; kind = Nothing; asks = noOperand }
 
 -- all words

@@ -23,9 +23,8 @@ pub enum Word {
     NoWord,
 }
 
-// A line by its word; operands are value numbers. No number of a line that is read is above 65,535; the level is wider, since with eight bytes
-// a line would be moved as one number, which is slower. Definitions have whole numbers of any size in their place. Free is no line: a record
-// that holds none.
+// A line by its word; operands are value numbers. No number of a line that is read is above 65,535; definitions have whole numbers of any size
+// in their place. Free is no line: a record that holds none.
 pub enum Line {
     In,
     Const(u16),
@@ -34,7 +33,7 @@ pub enum Line {
     Add(u16, u16),
     Mul(u16, u16),
     Out(u16),
-    Enc { of: u16, scale: u16, level: u32 },
+    Enc { of: u16, scale: u16, level: u16 },
     Rs(u16, u16),
     Ms(u16, u16),
     Us(u16, u16),

@@ -4,7 +4,7 @@ use Prim.Native.Nat.{ℕ, zero, suc, _+_, _-_, _*_, _/_, _≤_, min}
 use native.Mathlib.Nat.{min-le-right}
 use native.Mathlib.Omega.{arith}
 use mathlib.Core.Path.{_≡_, refl, sym, ap, _∙_, subst}
-use mathlib.Core.Bool.{Bool, true, false, cond, _||_}
+use mathlib.Core.Bool.{Bool, true, false, cond}
 use mathlib.Core.List.{List}
 use borrow.Author.Needs.{needs}
 use lib.IntN.{ℤ, pos, _-ℤ_}
@@ -21,7 +21,7 @@ use Rattle.model.specs.declared.Best.the-variants as Bests
 use Rattle.model.specs.Scales.{headroom}
 use Rattle.model.specs.Files.{operands}
 use Rattle.model.specs.Machine.{Step, goes, stops}
-use Rattle.model.specs.Plan.{Draft, emit, smaller, inputChoice, unchangedChoice, timesConstantChoice, constantTimesChoice, productChoice, unlessTooFew, choiceOf, bestMachine}
+use Rattle.model.specs.Plan.{Draft, emit, smaller, unchangedChoice, timesConstantChoice, constantTimesChoice, productChoice, unlessTooFew, choiceOf, bestMachine}
 use Rattle.model.proofs.Tests.{HeaderFacts}
 use Rattle.model.proofs.Runs.{stops-goes, goes-is}
 use Rattle.model.proofs.Outcomes.{Outcome, AnyReason}
@@ -29,10 +29,13 @@ use Rattle.model.proofs.Chosen.{unlessTooFew-elim}
 use Rattle.model.proofs.Supplies.{few-bits, Valid, ValidBest}
 use Rattle.model.proofs.Supplies as Supplies
 use Rattle.model.proofs.Meets.{Meets, meets-one, meets-sum, meets-times-constant, meets-constant-times, meets-product}
+use Rattle.conversions.specs.declared.Drafted.{Drafted}
 use Rattle.conversions.specs.declared.Operand.{Operand}
-use Rattle.planlines.specs.declared.each_line.PlannedLine.{PlannedLine}
+use Rattle.conversions.specs.Drafts.{Wrote}
 use Rattle.conversions.specs.Operands.{bestOf, supplied, Reaches}
-use Rattle.planlines.specs.Lines.{stepOn, lineOn, chosen, withOne, withTwo, PlannedAs, Plannable, Doable}
+use Rattle.linechoices.specs.Steps.{stepOn}
+use Rattle.linechoices.proofs.WordLaws.{neg-step, rot-step, add-step, mul-step, out-step}
+use Rattle.planlines.specs.Lines.{lineOn, withOne, withTwo, Plannable, DoneAs}
 
 -- ---- what the words ask of their operands
 module _ (h : Header) (H : HeaderFacts h) where
@@ -127,8 +130,8 @@ module _ (h : Header) (H : HeaderFacts h) where
         no-switches : min (0 / h .factor) 0 ≡ 0
         no-switches = omega (arith, min-le-right (0 / h .factor) 0)
 
--- ---- line x
-module _ (h : Header) (x : Line) (a b : Operand) (D : Doable h x a b) where
+-- ---- line x, done as p says
+module _ (h : Header) (x : Line) (a b : Operand) (p : Choice) (D : DoneAs h x a b p) where
   H : HeaderFacts h
   H =
       let g = D .ranges in
@@ -144,177 +147,67 @@ module _ (h : Header) (x : Line) (a b : Operand) (D : Doable h x a b) where
   valid-second : ValidBest h H (bestOf b)
   valid-second = valid h H b (D .second)
 
-  abbrev choice : Choice
-  choice = chosen (stepOn h x a b)
-
-  choice-is : choice ≡ choiceOf (D .best)
-  choice-is = ap chosen (D .goes-on)
-
-  -- a step that is the line's
-  module _ (s : Step Best ℕ) (is : stepOn h x a b ≡ s) where
-    went : s ≡ goes (D .best)
-    went = sym is ∙ D .goes-on
-
-    tested-choice : (p : Choice) → unlessTooFew h p ≡ s → p ≡ choice
-    tested-choice p e =
-        unlessTooFew-elim h p (λ t. t ≡ goes (D .best) → p ≡ choice) (λ q. stops-goes q) (λ o q. ap choiceOf (goes-is q) ∙ sym choice-is) (e ∙ went)
-
-    meets : (b′ : Best) → Outcome AnyReason (Met h H (bestOf a) b′) s → Meets h H choice (bestOf a) b′
-    meets b′ o = subst (λ (q : Choice). Meets h H q (bestOf a) b′) (sym choice-is) (subst (Outcome AnyReason (Met h H (bestOf a) b′)) went o)
+  -- where the line's step is s
+  meets : (s : Step Best ℕ) → stepOn h x a b ≡ s → (b′ : Best) → Outcome AnyReason (Met h H (bestOf a) b′) s → Meets h H p (bestOf a) b′
+  meets s is b′ o =
+      subst (λ (q : Choice). Meets h H q (bestOf a) b′) (sym (D .is)) (subst (Outcome AnyReason (Met h H (bestOf a) b′)) (sym is ∙ D .goes-on) o)
 
   never : {P : Type 0} (n : ℕ) → stepOn h x a b ≡ stops n → P
   never n e = stops-goes (sym e ∙ D .goes-on)
 
-  -- ---- each word: the machine's step, and what it asks of the operands
-  neg-step : (i : ℕ) → x ≡ Neg i → stepOn h x a b ≡ bestMachine h .neg (bestOf a)
-  unfolding stepOn
-  neg-step i e = rw e
-
-  rot-step : (i : ℕ) (t : ℤ) → x ≡ Rot i t → stepOn h x a b ≡ bestMachine h .neg (bestOf a)
-  unfolding stepOn
-  rot-step i t e = rw e
-
-  add-step : (i j : ℕ) → x ≡ Add i j → stepOn h x a b ≡ bestMachine h .add (bestOf a) (bestOf b)
-  unfolding stepOn
-  add-step i j e = rw e
-
-  mul-step : (i j : ℕ) → x ≡ Mul i j → stepOn h x a b ≡ bestMachine h .mul (bestOf a) (bestOf b)
-  unfolding stepOn
-  mul-step i j e = rw e
-
-  out-step : (i : ℕ) → x ≡ Out i → stepOn h x a b ≡ bestMachine h .out (bestOf a)
-  unfolding stepOn
-  out-step i e = rw e
-
-  -- a ciphertext, where a constant would stop the machine
-  is-ciphertext : (f : Best → Step Best ℕ) → f Bests.Constant ≡ stops 5 → stepOn h x a b ≡ f (bestOf a) → a .ciphertext ≡ true
-  is-ciphertext f c is = go (a .ciphertext) refl (went (f (bestOf a)) is)
-    where
-      go : (t : Bool) → a .ciphertext ≡ t → f (known h H a (D .first) t) ≡ goes (D .best) → a .ciphertext ≡ true
-      go true e q = e
-      go false e q = stops-goes (sym c ∙ q)
-
-  pub neg-ciphertext : (i : ℕ) → x ≡ Neg i → a .ciphertext ≡ true
-  neg-ciphertext i e = is-ciphertext (bestMachine h .neg) refl (neg-step i e)
-
-  pub rot-ciphertext : (i : ℕ) (t : ℤ) → x ≡ Rot i t → a .ciphertext ≡ true
-  rot-ciphertext i t e = is-ciphertext (bestMachine h .neg) refl (rot-step i t e)
-
-  pub out-ciphertext : (i : ℕ) → x ≡ Out i → a .ciphertext ≡ true
-  out-ciphertext i e = is-ciphertext (bestMachine h .out) refl (out-step i e)
-
-  -- one of two, where two constants would stop it
-  some-ciphertext : (f : Best → Best → Step Best ℕ) → f Bests.Constant Bests.Constant ≡ stops 5 → stepOn h x a b ≡ f (bestOf a) (bestOf b) → (a .ciphertext || b .ciphertext) ≡ true
-  some-ciphertext f c is = go (a .ciphertext) (b .ciphertext) (went (f (bestOf a) (bestOf b)) is)
-    where
-      go : (t u : Bool) → f (known h H a (D .first) t) (known h H b (D .second) u) ≡ goes (D .best) → (t || u) ≡ true
-      go true u q = refl
-      go false true q = refl
-      go false false q = stops-goes (sym c ∙ q)
-
-  pub add-some : (i j : ℕ) → x ≡ Add i j → (a .ciphertext || b .ciphertext) ≡ true
-  add-some i j e = some-ciphertext (bestMachine h .add) refl (add-step i j e)
-
-  pub mul-some : (i j : ℕ) → x ≡ Mul i j → (a .ciphertext || b .ciphertext) ≡ true
-  mul-some i j e = some-ciphertext (bestMachine h .mul) refl (mul-step i j e)
-
-  -- ---- how it is done
-  module _ (p : Choice) where
-    pub in-choice : x ≡ In → p ≡ inputChoice h → p ≡ choice
-    unfolding stepOn
-    in-choice e f = f ∙ tested-choice (unlessTooFew h (inputChoice h)) (rw e) (inputChoice h) refl
-
-    pub const-choice : (k : ℕ) → x ≡ Const k → p ≡ choiceOf Bests.Constant → p ≡ choice
-    unfolding stepOn
-    const-choice k e f = rw e f
-
-    pub neg-choice : (i : ℕ) → x ≡ Neg i → unlessTooFew h p ≡ bestMachine h .neg (bestOf a) → p ≡ choice
-    neg-choice i e f = tested-choice (bestMachine h .neg (bestOf a)) (neg-step i e) p f
-
-    pub rot-choice : (i : ℕ) (t : ℤ) → x ≡ Rot i t → unlessTooFew h p ≡ bestMachine h .neg (bestOf a) → p ≡ choice
-    rot-choice i t e f = tested-choice (bestMachine h .neg (bestOf a)) (rot-step i t e) p f
-
-    pub add-choice : (i j : ℕ) → x ≡ Add i j → unlessTooFew h p ≡ bestMachine h .add (bestOf a) (bestOf b) → p ≡ choice
-    add-choice i j e f = tested-choice (bestMachine h .add (bestOf a) (bestOf b)) (add-step i j e) p f
-
-    pub mul-choice : (i j : ℕ) → x ≡ Mul i j → unlessTooFew h p ≡ bestMachine h .mul (bestOf a) (bestOf b) → p ≡ choice
-    mul-choice i j e f = tested-choice (bestMachine h .mul (bestOf a) (bestOf b)) (mul-step i j e) p f
-
-    pub out-choice : (i : ℕ) → x ≡ Out i → p ≡ choiceOf (bestOf a) → p ≡ choice
-    out-choice i e f = f ∙ own (a .ciphertext) ∙ sym (ap chosen (out-step i e))
-      where
-        own : (t : Bool) → choiceOf (known h H a (D .first) t) ≡ chosen (bestMachine h .out (known h H a (D .first) t))
-        own true = refl
-        own false = refl
-
-    pub enc-choice : (i s l : ℕ) → x ≡ Enc i s l → p ≡ choice
-    unfolding stepOn
-    enc-choice i s l e = never 1 (rw e)
-
-    pub rs-choice : (i n : ℕ) → x ≡ Rs i n → p ≡ choice
-    unfolding stepOn
-    rs-choice i n e = never 1 (rw e)
-
-    pub ms-choice : (i n : ℕ) → x ≡ Ms i n → p ≡ choice
-    unfolding stepOn
-    ms-choice i n e = never 1 (rw e)
-
-    pub us-choice : (i n : ℕ) → x ≡ Us i n → p ≡ choice
-    unfolding stepOn
-    us-choice i n e = never 1 (rw e)
-
-    pub free-choice : x ≡ Free → p ≡ choice
-    unfolding stepOn
-    free-choice e = never 4 (rw e)
-
   -- ---- its lines, by the number of its operands
   record Single : Type 0 where
-    reached : Reaches h a (choice .first) (choice .level)
-    lines-are : (lines : List Line) → withOne h choice x a lines ≡ lineOn h choice x a b lines
+    reached : Reaches h a (p .first) (p .level)
+    lines-are : (lines : List Line) → withOne h p x a lines ≡ lineOn h p x a b lines
 
   record Double : Type 0 where
-    first-reached : Reaches h a (choice .first) (choice .level)
-    second-reached : Reaches h b (choice .second) (choice .level)
-    lines-are : (lines : List Line) → withTwo h choice x a b lines ≡ lineOn h choice x a b lines
+    first-reached : Reaches h a (p .first) (p .level)
+    second-reached : Reaches h b (p .second) (p .level)
+    lines-are : (lines : List Line) → withTwo h p x a b lines ≡ lineOn h p x a b lines
 
   abbrev ByCount : ℕ → Type 0
-  ByCount zero = (lines : List Line) → emit lines x ≡ lineOn h choice x a b lines
+  ByCount zero = (lines : List Line) → emit lines x ≡ lineOn h p x a b lines
   ByCount (suc zero) = Single
   ByCount (suc (suc zero)) = Double
   ByCount (suc (suc (suc n))) = Unit {0}
 
-  kept : stepOn h x a b ≡ bestMachine h .neg (bestOf a) → Reaches h a (choice .first) (choice .level)
+  kept : stepOn h x a b ≡ bestMachine h .neg (bestOf a) → Reaches h a (p .first) (p .level)
   kept is =
       let m = meets (bestMachine h .neg (bestOf a)) is (bestOf a) (kept-met h H (bestOf a) valid-first) in
-      reach h H a (D .first) (choice .first) (choice .level) (m .first) (m .first-reached)
+      reach h H a (D .first) (p .first) (p .level) (m .first) (m .first-reached)
 
-  double : Meets h H choice (bestOf a) (bestOf b) → ((lines : List Line) → withTwo h choice x a b lines ≡ lineOn h choice x a b lines) → Double
+  double : Meets h H p (bestOf a) (bestOf b) → ((lines : List Line) → withTwo h p x a b lines ≡ lineOn h p x a b lines) → Double
   double m e =
       record {
-        first-reached = reach h H a (D .first) (choice .first) (choice .level) (m .first) (m .first-reached);
-        second-reached = reach h H b (D .second) (choice .second) (choice .level) (m .second) (m .second-reached);
+        first-reached = reach h H a (D .first) (p .first) (p .level) (m .first) (m .first-reached);
+        second-reached = reach h H b (D .second) (p .second) (p .level) (m .second) (m .second-reached);
         lines-are = e;
       }
 
-  by-count : (y : Line) → x ≡ y → ByCount (length (operands y))
-  unfolding stepOn lineOn withOne withTwo
-  by-count In e = λ lines. rw e
-  by-count (Const k) e = λ lines. rw e
-  by-count (Neg i) e = record { reached = kept (neg-step i e); lines-are = λ lines. rw e }
-  by-count (Rot i t) e = record { reached = kept (rot-step i t e); lines-are = λ lines. rw e }
-  by-count (Add i j) e =
-      double (meets (bestMachine h .add (bestOf a) (bestOf b)) (add-step i j e) (bestOf b) (sum-met h H (bestOf a) (bestOf b) valid-first valid-second)) (λ lines. rw e)
-  by-count (Mul i j) e =
-      double (meets (bestMachine h .mul (bestOf a) (bestOf b)) (mul-step i j e) (bestOf b) (product-met h H (bestOf a) (bestOf b) valid-first valid-second)) (λ lines. rw e)
-  by-count (Out i) e =
-      let c = out-ciphertext i e in
-      let own : choiceOf (known h H a (D .first) true) ≡ choice = ap (λ (t : Bool). choiceOf (known h H a (D .first) t)) (sym c) ∙ out-choice (choiceOf (bestOf a)) i e refl in
+  -- `out` names a ciphertext, as it is
+  out-single : (i : ℕ) → x ≡ Out i → (t : Bool) → a .ciphertext ≡ t → bestMachine h .out (known h H a (D .first) t) ≡ goes (D .best) → Single
+  unfolding lineOn withOne
+  out-single i e false c q = stops-goes q
+  out-single i e true c q =
+      let own : choiceOf (known h H a (D .first) true) ≡ p = ap choiceOf (goes-is q) ∙ sym (D .is) in
       record {
         reached = subst (λ (q : Choice). Reaches h a (q .first) (q .level)) own (own-reach h H a (D .first) c);
         lines-are = λ lines.
             subst (λ (q : Choice). withOne h q x a lines ≡ lineOn h q x a b lines) own
             (rw e (ap (λ (d : Draft). emit (d .lines) (Out (d .number))) (own-supplied h H a (D .first) c lines)));
       }
+
+  by-count : (y : Line) → x ≡ y → ByCount (length (operands y))
+  unfolding stepOn lineOn withOne withTwo
+  by-count In e = λ lines. rw e
+  by-count (Const k) e = λ lines. rw e
+  by-count (Neg i) e = record { reached = kept (neg-step h x a b i e); lines-are = λ lines. rw e }
+  by-count (Rot i t) e = record { reached = kept (rot-step h x a b i t e); lines-are = λ lines. rw e }
+  by-count (Add i j) e =
+      double (meets (bestMachine h .add (bestOf a) (bestOf b)) (add-step h x a b i j e) (bestOf b) (sum-met h H (bestOf a) (bestOf b) valid-first valid-second)) (λ lines. rw e)
+  by-count (Mul i j) e =
+      double (meets (bestMachine h .mul (bestOf a) (bestOf b)) (mul-step h x a b i j e) (bestOf b) (product-met h H (bestOf a) (bestOf b) valid-first valid-second)) (λ lines. rw e)
+  by-count (Out i) e = out-single i e (a .ciphertext) refl (sym (out-step h x a b i e) ∙ D .goes-on)
   by-count (Enc i s l) e = never 1 (rw e)
   by-count (Rs i n) e = never 1 (rw e)
   by-count (Ms i n) e = never 1 (rw e)
@@ -328,55 +221,29 @@ module _ (h : Header) (x : Line) (a b : Operand) (D : Doable h x a b) where
     two-left : (n ≡ 0 → ⊥) → (n ≡ 1 → ⊥) → n ≤ 2 → n ≡ 2
     two-left f g k = omega arith
 
-    module _ (p : Choice) (is : p ≡ choice) where
-      pub one-reach : n ≡ 1 → Reaches h a (p .first) (p .level)
-      one-reach e = rw is (with-count 1 e .reached)
+    pub one-reach : n ≡ 1 → Reaches h a (p .first) (p .level)
+    one-reach e = with-count 1 e .reached
 
-      pub first-reach : (n ≡ 0 → ⊥) → (n ≡ 1 → ⊥) → n ≤ 2 → Reaches h a (p .first) (p .level)
-      first-reach f g k = rw is (with-count 2 (two-left f g k) .first-reached)
+    pub first-reach : (n ≡ 0 → ⊥) → (n ≡ 1 → ⊥) → n ≤ 2 → Reaches h a (p .first) (p .level)
+    first-reach f g k = with-count 2 (two-left f g k) .first-reached
 
-      pub second-reach : (n ≡ 0 → ⊥) → (n ≡ 1 → ⊥) → n ≤ 2 → Reaches h b (p .second) (p .level)
-      second-reach f g k = rw is (with-count 2 (two-left f g k) .second-reached)
+    pub second-reach : (n ≡ 0 → ⊥) → (n ≡ 1 → ⊥) → n ≤ 2 → Reaches h b (p .second) (p .level)
+    second-reach f g k = with-count 2 (two-left f g k) .second-reached
 
-      module _ (lines : List Line) (count : ℕ) (r : PlannedLine) (after : List (List ℕ)) where
-        abbrev Planned : Type 0
-        Planned = PlannedAs (lineOn h choice x a b lines) (choice .level) (count + 7) r after
+    module _ (lines : List Line) (count : ℕ) (r : Drafted) (after : List (List ℕ)) where
+      abbrev Planned : Type 0
+      Planned = Wrote (lineOn h p x a b lines) (count + 7) r after
 
-        as-chosen : {d : Draft} → d ≡ lineOn h choice x a b lines → {most : ℕ} → most ≤ count + 7 → PlannedAs d (choice .level) most r after → Planned
-        as-chosen f more w =
-            record {
-              wrote = record { same = w .wrote .same ∙ f; few = omega (arith, w .wrote .few); long = w .wrote .long };
-              level-is = w .level-is;
-            }
+      as-chosen : {d : Draft} → d ≡ lineOn h p x a b lines → {most : ℕ} → most ≤ count + 7 → Wrote d most r after → Planned
+      as-chosen f more w = record { same = w .same ∙ f; few = omega (arith, w .few); long = w .long }
 
-        pub none-planned : n ≡ 0 → PlannedAs (emit lines x) (p .level) (count + 1) r after → Planned
-        none-planned e w = as-chosen (with-count 0 e lines) (omega arith) (rw is at w)
+      pub none-planned : n ≡ 0 → Wrote (emit lines x) (count + 1) r after → Planned
+      none-planned e w = as-chosen (with-count 0 e lines) (omega arith) w
 
-        pub one-planned : n ≡ 1 → PlannedAs (withOne h p x a lines) (p .level) (count + 4) r after → Planned
-        one-planned e w = as-chosen (with-count 1 e .lines-are lines) (omega arith) (rw is at w)
+      pub one-planned : n ≡ 1 → Wrote (withOne h p x a lines) (count + 4) r after → Planned
+      one-planned e w = as-chosen (with-count 1 e .lines-are lines) (omega arith) w
 
-        pub two-planned : (n ≡ 0 → ⊥) → (n ≡ 1 → ⊥) → n ≤ 2 → PlannedAs (withTwo h p x a b lines) (p .level) (count + 7) r after → Planned
-        two-planned f g k w = as-chosen (with-count 2 (two-left f g k) .lines-are lines) (omega arith) (rw is at w)
-
-pub ruleset word-laws = (
-  needs,
-  neg-ciphertext,
-  rot-ciphertext,
-  out-ciphertext,
-  add-some,
-  mul-some,
-  in-choice,
-  const-choice,
-  neg-choice,
-  rot-choice,
-  add-choice,
-  mul-choice,
-  out-choice,
-  enc-choice,
-  rs-choice,
-  ms-choice,
-  us-choice,
-  free-choice,
-)
+      pub two-planned : (n ≡ 0 → ⊥) → (n ≡ 1 → ⊥) → n ≤ 2 → Wrote (withTwo h p x a b lines) (count + 7) r after → Planned
+      two-planned f g k w = as-chosen (with-count 2 (two-left f g k) .lines-are lines) (omega arith) w
 
 pub ruleset count-laws = (needs, one-reach, first-reach, second-reach, none-planned, one-planned, two-planned)

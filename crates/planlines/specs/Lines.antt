@@ -1,4 +1,4 @@
--- One circuit line, from what is known of its operands.
+-- The lines of one circuit line, from what is known of its operands.
 use Prim.Native.Nat.{ℕ, _+_, _*_, _≤_}
 use mathlib.Core.Bool.{true}
 use mathlib.Core.List.{List, [], _∷_}
@@ -8,29 +8,18 @@ use Rattle.model.specs.declared.Header.{Header}
 use Rattle.model.specs.declared.Line.{Line}
 use Rattle.model.specs.declared.Choice.{Choice}
 use Rattle.model.specs.declared.Best.{Best}
-use Rattle.model.specs.declared.Best.the-variants as Bests
 use Rattle.model.specs.Scales.{headroom}
-use Rattle.model.specs.Machine.{Step, goes, stops, step}
-use Rattle.model.specs.Plan.{Draft, emit, choiceOf, bestMachine, planLine}
+use Rattle.model.specs.Machine.{goes}
+use Rattle.model.specs.Plan.{Draft, emit, choiceOf, planLine}
 use Rattle.tables.specs.Operands.{withOperands}
 use Rattle.choices.specs.Ranges.{HeaderRanges, Small}
 use Rattle.conversions.specs.declared.Operand.{Operand}
-use Rattle.planlines.specs.declared.each_line.PlannedLine.{PlannedLine}
-use Rattle.conversions.specs.Drafts.{Wrote}
 use Rattle.conversions.specs.Operands.{bestOf, supplied}
+use Rattle.linechoices.specs.Steps.{stepOn}
 
--- The best machine's step for line x, and the plan's lines for it where it is done as p says, in a circuit whose values 0 and 1 are its
--- operands.
-unfoldable pub stepOn : Header → Line → Operand → Operand → Step Best ℕ
-stepOn h x a b = step (bestMachine h) 0 (bestOf a ∷ bestOf b ∷ []) (withOperands x 0 1)
-
+-- The plan's lines for line x where it is done as p says, in a circuit whose values 0 and 1 are its operands.
 unfoldable pub lineOn : Header → Choice → Line → Operand → Operand → List Line → Draft
 lineOn h p x a b lines = planLine h (bestOf a ∷ bestOf b ∷ []) (a .number ∷ b .number ∷ []) p (withOperands x 0 1) lines
-
--- how a line is done, where the machine goes on
-abbrev pub chosen : Step Best ℕ → Choice
-chosen (goes v) = choiceOf v
-chosen (stops e) = choiceOf Bests.Constant
 
 -- the lines of one operand, or of two, then line x itself
 unfoldable pub withOne : Header → Choice → Line → Operand → List Line → Draft
@@ -44,11 +33,6 @@ withTwo h p x a b lines =
     let e = supplied h b (p .second) (p .level) (d .lines) in
     emit (e .lines) (withOperands x (d .number) (e .number))
 
--- The lines are written, and the circuit line stands at that level.
-pub record PlannedAs (d : Draft) (level most : ℕ) (r : PlannedLine) (after : List (List ℕ)) : Type 0 where
-  pub wrote : Wrote d most (r .drafted) after
-  pub level-is : r .level ≡ level
-
 -- A ciphertext has a reserve that its level can have.
 pub record Stands (h : Header) (o : Operand) : Type 0 where
   pub fits : positive (o .reserve) + h .waterline ≤ h .factor * o .level
@@ -60,10 +44,11 @@ pub record Plannable (h : Header) (o : Operand) : Type 0 where
   pub small : Small (o .reserve)
   pub stands : o .ciphertext ≡ true → Stands h o
 
--- A line of a circuit that goes on with it.
-pub record Doable (h : Header) (x : Line) (a b : Operand) : Type 0 where
+-- The machine goes on with line x, which is then done as p says.
+pub record DoneAs (h : Header) (x : Line) (a b : Operand) (p : Choice) : Type 0 where
   pub ranges : HeaderRanges h
   pub first : Plannable h a
   pub second : Plannable h b
   pub best : Best
   pub goes-on : stepOn h x a b ≡ goes best
+  pub is : p ≡ choiceOf best

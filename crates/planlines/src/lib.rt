@@ -1,90 +1,105 @@
-// Writes the plan of a circuit: for each of its lines the conversion lines of its operands, then the line itself.
-pub mod each_line;
-
+// The lines of one circuit line in the schedule: those of its operands, then the line itself.
+use conversions::Drafted;
 use conversions::Operand;
+use model::Choice;
 use model::Header;
-use model::Kind;
+use model::Line;
 use tables::Record;
 ghost use mathlib.Core.Path.{_≡_};
-ghost use Prim.Native.Nat.{_≤_, _<_};
-ghost use lib.ListN.{length, take};
-ghost use Rattle.model.specs.declared.Grammar.the-variants.{Circuit};
-ghost use Rattle.model.specs.Files.{isCiphertext};
-ghost use Rattle.model.specs.Machine.{finished};
-ghost use Rattle.text.specs.Tables.{TableFormed};
-ghost use Rattle.tables.specs.Records.{linesHeld, freeRecords, held};
-ghost use Rattle.tables.specs.Bests.{reservesRun};
-ghost use Rattle.conversions.specs.Operands.{operandIn};
-ghost use Rattle.planlines.specs.Plans.{planOf};
+ghost use Prim.Native.Nat.{_+_, _≤_};
+ghost use lib.ListN.{length};
+ghost use Rattle.model.specs.Files.{operands};
+ghost use Rattle.tables.specs.Records.{linesHeld};
+ghost use Rattle.conversions.specs.Drafts.{Room, Wrote};
+ghost use Rattle.conversions.specs.Operands.{Reaches};
+ghost use Rattle.planlines.specs.Lines.{withOne, withTwo, lineOn, DoneAs};
 
-fn is_ciphertext(kind: Kind) -> bool
-    ensures { λ r. ⌜ r ≡ isCiphertext kind ⌝ }
+// How many values a line names.
+fn operand_count(line: Line) -> u32
+    ensures { λ r. ⌜ r ≡ length (operands line) ⌝ }
+    ensures few { λ r. ⌜ r ≤ 2 ⌝ }
 {
-    match kind {
-        Kind::Ciphertext => true,
-        Kind::Constant => false,
-        Kind::Encoded => false,
-        Kind::Nothing => false,
+    match line {
+        Line::In => 0,
+        Line::Const(_) => 0,
+        Line::Neg(_) => 1,
+        Line::Rot(_, _) => 1,
+        Line::Add(_, _) => 2,
+        Line::Mul(_, _) => 2,
+        Line::Out(_) => 1,
+        Line::Enc { .. } => 1,
+        Line::Rs(_, _) => 1,
+        Line::Ms(_, _) => 1,
+        Line::Us(_, _) => 1,
+        Line::Free => 0,
     }
 }
 
-// What is known of a value that a line after `count` circuit lines names.
-fn operand_at(
-    circuit: &[Record],
-    count: usize,
-    reserves: &[i32],
-    levels: &[u16],
-    numbers: &[u16],
-    value: u16,
-) -> Operand
-    requires { ⌜ count ≤ length (now circuit) ⌝ }
-    requires { ⌜ value < length (now reserves) ⌝ }
-    requires { ⌜ value < length (now levels) ⌝ }
-    requires { ⌜ value < length (now numbers) ⌝ }
-    ensures { λ r. ⌜ r ≡ operandIn (linesHeld (now (circuit .entry)) count) (now (reserves .entry)) (now (levels .entry)) (now (numbers .entry)) value ⌝ }
-{
-    let kind = tables::kind_at(circuit, count, value as u64);
-    let a = value as usize;
-    Operand {
-        ciphertext: is_ciphertext(kind),
-        reserve: reserves[a],
-        level: levels[a] as u32,
-        number: numbers[a],
-    }
-}
-
-// The plan of a circuit whose lines have these best reserves, into records that are free, and how many lines it has. Beside it stand the
-// numbers that the circuit's lines have in the schedule, and their levels.
-pub fn plan_table(
+// ---- a line with one operand, and with two
+fn plan_one(
     header: Header,
-    circuit: &[Record],
-    size: usize,
-    reserves: &[i32],
     schedule: &mut [Record],
-) -> usize
-    requires { ⌜ TableFormed Circuit (held header (now circuit) size) ⌝ }
-    requires { ⌜ length (now reserves) ≡ 256 ⌝ }
-    requires { ⌜ reservesRun header (linesHeld (now circuit) size) ≡ finished (take size (now reserves)) ⌝ }
-    requires { ⌜ now schedule ≡ freeRecords ⌝ }
-    ensures { λ r. ⌜ linesHeld (now (schedule .exit)) r ≡ planOf header (linesHeld (now (circuit .entry)) size) ⌝ }
-    ensures few { λ r. ⌜ r ≤ 1792 ⌝ }
+    count: usize,
+    line: Line,
+    choice: Choice,
+    first: Operand,
+) -> Drafted
+    requires { ⌜ Room (now schedule) count 4 ⌝ }
+    requires { ⌜ Reaches header first (choice .first) (choice .level) ⌝ }
+    ensures { λ r. ⌜ Wrote (withOne header choice line first (linesHeld (now (schedule .entry)) count)) (count + 4) r (now (schedule .exit)) ⌝ }
 {
-    let mut numbers = [0u16; 256];
-    let mut levels = [0u16; 256];
-    let mut count: usize = 0;
-    let mut i: usize = 0;
-    while i < size {
-        let line = tables::line_at(circuit, i);
-        let a = tables::first_operand(line);
-        let b = tables::second_operand(line);
-        let first = operand_at(circuit, i, reserves, &levels, &numbers, a);
-        let second = operand_at(circuit, i, reserves, &levels, &numbers, b);
-        let planned = each_line::plan_line(header, schedule, count, line, first, second);
-        let drafted = planned.drafted;
-        numbers[i] = drafted.number;
-        levels[i] = planned.level as u16;
-        count = drafted.count;
-        i += 1;
+    let one = conversions::put_operand(header, schedule, count, first, choice.first, choice.level);
+    let named = tables::with_operands(line, one.number, 0);
+    conversions::put(schedule, one.count, named)
+}
+
+fn plan_two(
+    header: Header,
+    schedule: &mut [Record],
+    count: usize,
+    line: Line,
+    choice: Choice,
+    first: Operand,
+    second: Operand,
+) -> Drafted
+    requires { ⌜ Room (now schedule) count 7 ⌝ }
+    requires { ⌜ Reaches header first (choice .first) (choice .level) ⌝ }
+    requires { ⌜ Reaches header second (choice .second) (choice .level) ⌝ }
+    ensures { λ r. ⌜ Wrote (withTwo header choice line first second (linesHeld (now (schedule .entry)) count)) (count + 7) r (now (schedule .exit)) ⌝ }
+{
+    let one = conversions::put_operand(header, schedule, count, first, choice.first, choice.level);
+    let two = conversions::put_operand(
+        header,
+        schedule,
+        one.count,
+        second,
+        choice.second,
+        choice.level,
+    );
+    let named = tables::with_operands(line, one.number, two.number);
+    conversions::put(schedule, two.count, named)
+}
+
+// ---- any line of a circuit, done as chosen
+pub fn plan_line(
+    header: Header,
+    schedule: &mut [Record],
+    count: usize,
+    line: Line,
+    choice: Choice,
+    first: Operand,
+    second: Operand,
+) -> Drafted
+    requires { ⌜ Room (now schedule) count 7 ⌝ }
+    requires { ⌜ DoneAs header line first second choice ⌝ }
+    ensures { λ r. ⌜ Wrote (lineOn header choice line first second (linesHeld (now (schedule .entry)) count)) (count + 7) r (now (schedule .exit)) ⌝ }
+{
+    let operands = operand_count(line);
+    if operands == 0 {
+        return conversions::put(schedule, count, line);
     }
-    count
+    if operands == 1 {
+        return plan_one(header, schedule, count, line, choice, first);
+    }
+    plan_two(header, schedule, count, line, choice, first, second)
 }

@@ -1,7 +1,7 @@
 // Plan and least level, from the bytes of a circuit to the reply. The text layer is used by its contracts alone.
 use model::Grammar;
+use plantable::Planned;
 use reader::FileRead;
-use reserves::Walked;
 use services::Reply;
 ghost use mathlib.Core.Path.{_≡_};
 ghost use Rattle.services.specs.Outcomes.{replyOf, Replied};
@@ -15,18 +15,10 @@ pub fn plan(circuit: &[u8], out: &mut [u8]) -> Reply
     match reader::read_circuit(circuit, &mut records) {
         FileRead::Refused { number, place } => replies::refusal(number, 1, place),
         FileRead::Table { header, count } => {
-            let mut best = [0i32; 256];
-            match reserves::best_reserves(header, &records, count, &mut best) {
-                Walked::TooFew { line } => replies::refusal(6, 1, line + 2),
-                Walked::Fits => {
-                    let mut schedule = [tables::FREE; 1792];
-                    let length = planlines::plan_table(
-                        header,
-                        &records,
-                        count,
-                        &best,
-                        &mut schedule,
-                    );
+            let mut schedule = [tables::FREE; 1792];
+            match plantable::plan_table(header, &records, count, &mut schedule) {
+                Planned::TooFew { line } => replies::refusal(6, 1, line + 2),
+                Planned::Lines(length) => {
                     replies::lend(out, Grammar::Schedule, header, &schedule, length)
                 }
             }

@@ -37,9 +37,10 @@ use Rattle.tables.proofs.Records.{free-long, none-stored, stored-free}
 use Rattle.tables.proofs.HeldLines.{stored-lines}
 use Rattle.tables.proofs.Words.{line-word, record-line}
 use Rattle.words.specs.Words.{wordIn}
-use Rattle.lines.specs.declared.LineRead.{LineRead}
-use Rattle.lines.specs.declared.LineRead.the-variants.{Good, Bad}
-use Rattle.lines.specs.Lines.{lineRead, lineTo, wordJudged, lineJudged}
+use Rattle.judging.specs.declared.LineRead.{LineRead}
+use Rattle.judging.specs.declared.LineRead.the-variants.{Good, Bad}
+use Rattle.judging.specs.Judging.{lineRead, lineTo}
+use Rattle.lines.specs.Lines.{wordJudged, lineJudged}
 use Rattle.lines.proofs.LineLaws.{line-by-word, line-past-word}
 use Rattle.reader.specs.declared.FileRead.the-variants.{Table, Refused}
 use Rattle.reader.specs.Reads.{pastLimits, keptWith, nextLine, restFrom, readingOf, Filled}

@@ -17,10 +17,11 @@ use Rattle.model.specs.declared.Header.{Header}
 use Rattle.model.specs.declared.Line.{Line}
 use Rattle.model.specs.declared.Word.{Word}
 use Rattle.model.specs.Words.{entry, words, hasWord}
-use Rattle.model.specs.Files.{File, wordOf, isCircuitWord}
+use Rattle.model.specs.Files.{File, wordOf, isWord}
 use Rattle.text.specs.declared.Context.{Context}
-use Rattle.text.specs.Files.{vocabulary, keptCount, isKeptWord, beginsKept, tooMany, format, readText}
+use Rattle.text.specs.Files.{vocabulary, keptCount, beginsKept, tooMany, format, readText}
 use Rattle.text.proofs.FileLaws.{kept-append}
+use Rattle.text.proofs.FormLaws.{isKeptWord}
 use Rattle.forms.specs.Along.{lineIn, isClosed, afterLine, fieldIn}
 use Rattle.forms.proofs.WordLaws.{first-piece}
 use Rattle.forms.proofs.TextLaws.{lines-closed, lines-open, line-open}
@@ -29,8 +30,8 @@ use Rattle.lines.specs.Lines.{lineJudged, headerJudged}
 use Rattle.reader.specs.Reads.{pastLimits, keptWith, nextLine, restFrom}
 
 -- ---- kept lines
-pub kept-more : (done : List Line) (x : Line) → keptCount (done ++ (x ∷ [])) ≡ keptWith (keptCount done) (isCircuitWord x)
-kept-more done x = go (isCircuitWord x) (kept-append done (x ∷ []))
+pub kept-more : (done : List Line) (x : Line) → keptCount (done ++ (x ∷ [])) ≡ keptWith (keptCount done) (isWord Circuit x)
+kept-more done x = go (isWord Circuit x) (kept-append done (x ∷ []))
   where
     go : (b : Bool) → keptCount (done ++ (x ∷ [])) ≡ keptCount done + cond b 1 0 → keptCount (done ++ (x ∷ [])) ≡ cond b (keptCount done + 1) (keptCount done)
     go true e = e

@@ -1,5 +1,5 @@
 // Reads a text into a table in one pass: the header line, then one line after another until the first that is refused.
-use lines::LineRead;
+use judging::LineRead;
 use lines::headers::HeaderRead;
 use model::Grammar;
 use model::Header;
@@ -69,14 +69,14 @@ fn read_lines(
     let mut kept: usize = 0;
     let mut at = start;
     while at < text.len() {
-        let first = words::word_at(text, at);
-        let word = first.word;
+        let found = words::word_at(text, at);
+        let word = found.word;
         let number = tables::number_of(word);
         if past_limits(context, count, kept, word) {
             let place = (count as u32) + 2;
             return FileRead::Refused { number: 3, place };
         }
-        match lines::read_line(grammar, header, records, count, text, word, first.end) {
+        match lines::read_line(grammar, header, records, count, text, found) {
             LineRead::Bad { number, place } => return FileRead::Refused { number, place },
             LineRead::Good { a, b, c, end } => {
                 records[count] = [number, a, b, c];

@@ -2,4 +2,3 @@
 pub mod Known
 pub mod PairLaws
 pub mod LineLaws
-pub mod Walk

@@ -122,8 +122,7 @@ module _ {h : Header} {records : List (List ℕ)} {reserves : List ℤ} {i : ℕ
     reserve-is : (p : Choice) → pairReserve (λ r r′. both r r′ .reserve) one records reserves a b ≡ p .reserve → Outcome (StopsAs k s) (GoesAs k s) (unlessTooFew h p)
     reserve-is p q = chosen s p (e ∙ ap (unlessTooLow h) q)
 
-    on-pair : OnOperands (StopsAs k s) (Holds k) (GoesAs k s) Circuit a b
-        (onReserves (λ r r′. unlessTooFew h (both r r′)) (λ r. unlessTooFew h (left r)) (λ r. unlessTooFew h (right r)))
+    on-pair : OnOperands (StopsAs k s) (Holds k) (GoesAs k s) Circuit a b (onReserves h both left right)
     on-pair j j′ Bests.Constant Bests.Constant t o p = absurd (subst₂ (λ (m n : Kind). T (isPair Circuit m n)) (o .kind-is) (p .kind-is) t)
     on-pair j j′ Bests.Constant (Bests.Ciphertext q) t o p = reserve-is (right (q .reserve)) (rw (o .bare-is, ← p .reserve-is) (r (q .reserve)))
     on-pair j j′ (Bests.Ciphertext q) Bests.Constant t o p = reserve-is (left (q .reserve)) (rw (o .bare-is, p .bare-is, ← o .reserve-is) (l (q .reserve)))

@@ -1,4 +1,4 @@
--- What the walk over a circuit comes to.
+-- One line of the walk over a circuit.
 use Prim.Native.Nat.{ℕ, _+_, _<_}
 use mathlib.Core.Bool.{cond}
 use mathlib.Core.List.{List, [], _∷_, _++_}
@@ -14,17 +14,10 @@ use Rattle.model.specs.Machine.{Step, goes, stops, Run, finished, stopped}
 use Rattle.model.specs.Scales.{headroom}
 use Rattle.tables.specs.Bests.{reservesRun}
 use Rattle.tables.specs.Records.{linesHeld}
-use Rattle.reserves.specs.declared.Walked.{Walked}
-use Rattle.reserves.specs.declared.Walked.the-variants as Walks
 use Rattle.reserves.specs.declared.LineReserve.{LineReserve}
 use Rattle.reserves.specs.declared.LineReserve.the-variants.{Leaves, TooFew}
 
--- held: the best reserves of the lines that were walked. "6 too few levels"
-abbrev pub walkOf : Walked → List ℤ → Run ℤ ℕ
-walkOf Walks.Fits held = finished held
-walkOf (Walks.TooFew line) held = stopped line 6
-
--- what a line comes to, as a step
+-- what a line comes to, as a step. "6 too few levels"
 abbrev pub stepOf : LineReserve → Step ℤ ℕ
 stepOf (Leaves r) = goes r
 stepOf TooFew = stops 6

@@ -1,24 +1,16 @@
-// The best reserve of each line of a circuit.
+// The best reserve of a circuit line, by those of the lines before it.
 
 use model::Header;
 use model::Line;
 use tables::Record;
 ghost use mathlib.Core.Path.{_≡_};
 ghost use Prim.Native.Nat.{_+_};
-ghost use lib.ListN.{length, take};
-ghost use Rattle.model.specs.declared.Grammar.the-variants.{Circuit};
-ghost use Rattle.text.specs.Tables.{TableFormed};
+ghost use lib.ListN.{take};
 ghost use Rattle.tables.specs.Bests.{reservesRun};
-ghost use Rattle.tables.specs.Records.{linesHeld, held};
+ghost use Rattle.tables.specs.Records.{linesHeld};
 ghost use Rattle.choices.specs.Ranges.{HeaderRanges};
 ghost use Rattle.reserves.specs.Pairs.{KnownOperand, sumReserve, productReserve};
-ghost use Rattle.reserves.specs.Walks.{walkOf, stepOf, unlessTooLow, oneMore, KnownTo};
-
-// What the walk over a circuit comes to: every line has a best reserve, or this line has too few levels.
-pub enum Walked {
-    Fits,
-    TooFew { line: u32 },
-}
+ghost use Rattle.reserves.specs.Walks.{stepOf, unlessTooLow, oneMore, KnownTo};
 
 // What a line comes to: the best reserve that it leaves, 0 for a bare constant, or too few levels.
 pub enum LineReserve {
@@ -96,37 +88,10 @@ pub fn reserve_of(header: Header, circuit: &[Record], reserves: &[i32], i: usize
             LineReserve::Leaves(reserves[first])
         }
         // No circuit has these words.
-        Line::Enc {
-            of: _,
-            scale: _,
-            level: _,
-        } => LineReserve::TooFew,
+        Line::Enc { .. } => LineReserve::TooFew,
         Line::Rs(_, _) => LineReserve::TooFew,
         Line::Ms(_, _) => LineReserve::TooFew,
         Line::Us(_, _) => LineReserve::TooFew,
         Line::Free => LineReserve::TooFew,
     }
-}
-
-// The best reserve of each line, or the first line that has too few levels.
-pub fn best_reserves(
-    header: Header,
-    circuit: &[Record],
-    count: usize,
-    reserves: &mut [i32],
-) -> Walked
-    requires { ⌜ TableFormed Circuit (held header (now circuit) count) ⌝ }
-    requires { ⌜ length (now reserves) ≡ 256 ⌝ }
-    ensures { λ r. ⌜ walkOf r (take count (now (reserves .exit))) ≡ reservesRun header (linesHeld (now (circuit .entry)) count) ⌝ }
-    ensures wide { λ r. ⌜ length (now (reserves .exit)) ≡ 256 ⌝ }
-{
-    let mut i: usize = 0;
-    while i < count {
-        let LineReserve::Leaves(reserve) = reserve_of(header, circuit, reserves, i) else {
-            return Walked::TooFew { line: i as u32 };
-        };
-        reserves[i] = reserve;
-        i += 1;
-    }
-    Walked::Fits
 }

@@ -11,7 +11,8 @@ use Rattle.ints.specs.Parts.{positive}
 use Rattle.fields.specs.Pieces.{Bytes, tab, lineFeed, split, sameBytes}
 use Rattle.fields.specs.Numbers.{digitsOf, numberOf, amountOf}
 use Rattle.rows.specs.Fields.{Holds, operand, ranged, amount, readFields, allInRange}
-use Rattle.rows.specs.Forms.{wordless, titled, Vocabulary, Said, named, worded}
+use Rattle.rows.specs.Wordless.{wordless}
+use Rattle.rows.specs.Forms.{titled, Vocabulary, Said, named, worded}
 use Rattle.rows.specs.Lines.{linesOf}
 use Rattle.rows.specs.Rows.{Reading, read, refused, Format, File, readLine, rowsFrom, ended, readLines, readFile}
 

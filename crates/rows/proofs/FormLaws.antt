@@ -14,7 +14,8 @@ use Rattle.fields.proofs.Each as E
 use Rattle.fields.proofs.Each.{Each}
 use Rattle.fields.proofs.PieceLaws.{Without, split-join, join-split, join-without, same-bytes, bytes-same}
 use Rattle.rows.specs.Fields.{Holds, readFields}
-use Rattle.rows.specs.Forms.{Form, saidText, wordless, afterWord, titled, Vocabulary, Said, named, saying, followed, readSaid, worded, made}
+use Rattle.rows.specs.Wordless.{wordless}
+use Rattle.rows.specs.Forms.{Form, saidText, afterWord, titled, Vocabulary, Said, named, saying, readSaid, worded, made}
 use Rattle.rows.proofs.Tests.{and-first, and-second, cond-cases, cond-true}
 use Rattle.rows.proofs.FieldLaws.{some-is, none-some, Held, Fields, Short, fields-written-read, fields-read-written, fields-length, numbers-without}
 use Rattle.rows.proofs.LengthLaws.{fields-most}
@@ -116,6 +117,10 @@ module _ {W : Type 0} (v : Vocabulary W) where
           cond-cases (λ o. o ≡ some w → v .bytes w ≡ field) (sameBytes field (v .bytes u)) (some u) (named v ws field)
           (λ t q. ap (v .bytes) (sym (some-is q)) ∙ sym (same-bytes field (v .bytes u) t)) (λ t q. ih w q)
 
+  -- what the fields after a word are read to, if it is one
+  abbrev followed : Option W → List Bytes → Option (Said W)
+  followed o fields = elim o [ none ↦ none | some w ↦ Option·map (saying w) (readFields (v .fields w) fields) ]
+
   abbrev pub WordedBack : Bytes → Said W → Type 0
   WordedBack p s = SaidBack (v .bytes (s .word)) (v .fields (s .word)) p (s .numbers)
 
@@ -127,7 +132,7 @@ module _ {W : Type 0} (v : Vocabulary W) where
       after w field fields q n none r u = none-some u
       after w field fields q n (some ns) r u = subst (WordedBack p) (some-is u) (said-back (v .bytes w) (v .fields w) p field fields q (named-is (v .words) field n) r)
 
-      at-word : (field : Bytes) (fields : List Bytes) → split tab p ≡ field ∷ fields → (o : Option W) → named v (v .words) field ≡ o → followed v o fields ≡ some s
+      at-word : (field : Bytes) (fields : List Bytes) → split tab p ≡ field ∷ fields → (o : Option W) → named v (v .words) field ≡ o → followed o fields ≡ some s
           → WordedBack p s
       at-word field fields q none n u = none-some u
       at-word field fields q (some w) n u = after w field fields q n (readFields (v .fields w) fields) refl u
@@ -144,7 +149,7 @@ module _ {W : Type 0} (v : Vocabulary W) where
         → Each Short (s .numbers) → worded v .reads (worded v .text s) ≡ some s
     worded-forth s n held short =
         ap (readSaid v) (said-fields (v .bytes (s .word)) (are (s .word)) (s .numbers))
-        ∙ ap (λ (o : Option W). followed v o (map amountText (s .numbers))) n ∙ ap (Option·map (saying (s .word))) (fields-written-read held short)
+        ∙ ap (λ (o : Option W). followed o (map amountText (s .numbers))) n ∙ ap (Option·map (saying (s .word))) (fields-written-read held short)
 
 -- ---- the same lines as another type
 module _ {R A : Type 0} (make : R → A) (take : A → R) (form : Form R) where

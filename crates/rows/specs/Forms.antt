@@ -16,10 +16,6 @@ pub record Form (A : Type 0) : Type 0 where
 abbrev pub saidText : Bytes → List ℤ → Bytes
 saidText word ns = join tab (word ∷ map amountText ns)
 
--- ---- lines without a word
-abbrev pub wordless : List Holds → Form (List ℤ)
-wordless fs = record { reads = λ p. readFields fs (split tab p); text = λ ns. join tab (map amountText ns) }
-
 -- ---- lines that begin with one word
 abbrev pub afterWord : Bytes → List Holds → List Bytes → Option (List ℤ)
 afterWord word fs [] = none
@@ -48,13 +44,10 @@ module _ {W : Type 0} (v : Vocabulary W) where
   named [] field = none
   named (w ∷ ws) field = cond (sameBytes field (v .bytes w)) (some w) (named ws field)
 
-  abbrev pub followed : Option W → List Bytes → Option (Said W)
-  followed none fields = none
-  followed (some w) fields = Option·map (saying w) (readFields (v .fields w) fields)
-
   abbrev pub readSaid : List Bytes → Option (Said W)
   readSaid [] = none
-  readSaid (field ∷ fields) = followed (named (v .words) field) fields
+  readSaid (field ∷ fields) =
+      elim (named (v .words) field) [ none ↦ none | some w ↦ Option·map (saying w) (readFields (v .fields w) fields) ]
 
 abbrev pub worded : {W : Type 0} → Vocabulary W → Form (Said W)
 worded v = record { reads = λ p. readSaid v (split tab p); text = λ s. saidText (v .bytes (s .word)) (s .numbers) }

@@ -3,3 +3,5 @@ pub mod Fields
 pub mod Forms
 pub mod Lines
 pub mod Rows
+-- apart from these, lines that begin with no word
+pub mod Wordless

@@ -37,14 +37,14 @@ module _ {A : Type 0} where
   formed none tests = bad 1
   formed (some x) tests = judged (tests x) x
 
-module _ {A B : Type 0} where
-  abbrev pub onward : Reading A → (A → Reading B) → Reading B
-  onward (read x) more = more x
-  onward (refused n place) more = refused n place
+-- what was read is handed on, and a refusal stays, at the place that it has or at this place
+abbrev pub onward : {A B : Type 0} → Reading A → (A → Reading B) → Reading B
+onward (read x) more = more x
+onward (refused n place) more = refused n place
 
-  abbrev pub at : ℕ → Judgement A → (A → Reading B) → Reading B
-  at place (good x) more = more x
-  at place (bad n) more = refused n place
+abbrev pub at : {A B : Type 0} → ℕ → Judgement A → (A → Reading B) → Reading B
+at place (good x) more = more x
+at place (bad n) more = refused n place
 
 -- A kind of file, whose header line gives an H and each line an A: the two forms; the tests after each form, a line's with the rows before
 -- it at hand; which line is one too many; and whether no line is missing at the end.

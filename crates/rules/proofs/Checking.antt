@@ -28,13 +28,17 @@ use Rattle.model.proofs.Lists.{found-at}
 use Rattle.model.proofs.Tests.{below-or-not}
 use Rattle.model.proofs.Formed.{LineFacts, well-header, well-lines, formed-index}
 use Rattle.text.proofs.Tables.{table-length}
-use Rattle.rules.specs.declared.bounds.Ruled.{Ruled}
-use Rattle.rules.specs.declared.bounds.Ruled.the-variants.{Goes, Stops}
-use Rattle.rules.specs.declared.rule_steps.Held.{Held}
-use Rattle.rules.specs.Ruled.{nothing, heldAt, ruledBy, Small, AllSmall, SmallRuled}
+use Rattle.bounds.specs.declared.Ruled.{Ruled}
+use Rattle.bounds.specs.declared.Ruled.the-variants.{Goes, Stops}
+use Rattle.linerules.specs.declared.Held.{Held}
+use Rattle.bounds.specs.Bounded.{SmallRuled}
+use Rattle.linerules.specs.Ruled.{ruledBy, Small}
 use Rattle.tables.specs.Operands.{firstOperand, secondOperand}
 use Rattle.tables.specs.Records.{lineOf, linesOf, linesHeld, held}
-use Rattle.rules.proofs.Operands.{foundAs, stepOf, operand-below, step-is}
+use Rattle.rules.proofs.Operands.{nothing, heldAt, foundAs, stepOf, operand-below, step-is}
+
+abbrev AllSmall : List Held → Type 0
+AllSmall all = (a : ℕ) → Small (heldAt all a)
 
 -- what the numbers of line a stand for
 abbrev foundAt : List Line → List Held → ℕ → Found

@@ -19,15 +19,24 @@ use Rattle.model.specs.declared.Found.{Found}
 use Rattle.model.specs.declared.Found.the-variants as Founds
 use Rattle.rows.specs.Rows.{Tests}
 use Rattle.model.specs.Files.{kindOf, kindAt, isCiphertext, isConstant, isPair, isUsable, everyUsable}
-use Rattle.model.specs.Machine.{Step, goes, stops, andThen, orAbsent, heldBy, step}
+use Rattle.model.specs.Machine.{Step, goes, stops, andThen, heldBy, step}
 use Rattle.model.specs.Answers.{unless, boundTests, bounded, onBare, onCiphertext, onPair, sum, product, checkMachine}
 use Rattle.model.proofs.Tests.{and-first, and-second, is-ciphertext, is-constant}
+use Rattle.model.proofs.Runs.{orAbsent}
 use Rattle.model.proofs.Formed.{LineFacts, usable-below}
-use Rattle.rules.specs.declared.bounds.Ruled.{Ruled}
-use Rattle.rules.specs.declared.bounds.Ruled.the-variants.{Goes, Stops}
-use Rattle.rules.specs.declared.rule_steps.Held.{Held}
-use Rattle.rules.specs.Ruled.{heldAt, ruledUnless, boundedNumbers, movedBy, sumOf, productOf, ruledBy}
+use Rattle.bounds.specs.declared.Ruled.{Ruled}
+use Rattle.bounds.specs.declared.Ruled.the-variants.{Goes, Stops}
+use Rattle.linerules.specs.declared.Held.{Held}
+use Rattle.bounds.specs.Bounded.{ruledUnless, boundedNumbers}
+use Rattle.linerules.specs.Ruled.{movedBy, sumOf, productOf, ruledBy}
 use Rattle.tables.specs.Operands.{firstOperand, secondOperand}
+
+-- what line a holds, among all that is held
+abbrev pub nothing : Held
+nothing = record { scale = 0; level = 0 }
+
+abbrev pub heldAt : List Held → ℕ → Held
+heldAt all a = getD all a nothing
 
 -- ---- what numbers stand for, by a line's kind; an `out` line, which nothing names, holds what its ciphertext does
 abbrev pub foundAs : Kind → ℕ → ℕ → Found

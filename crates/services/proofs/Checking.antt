@@ -24,7 +24,7 @@ use Rattle.services.specs.declared.Reply.{Reply}
 use Rattle.services.specs.Outcomes.{Outcome, refuses, replyOf}
 use Rattle.services.specs.Calls.{answered, onceRead, checkOutcome}
 use Rattle.services.specs.Promises as Promises
-use Rattle.services.specs.Promises.{Passed, TextsDifferAt, Verdict, keeps-rules, other-circuit, breaks-rule, CheckComesTo, CheckPromise}
+use Rattle.services.specs.Promises.{OnceRead, Passed, TextsDifferAt, Verdict, keeps-rules, other-circuit, breaks-rule, CheckPromise}
 use Rattle.services.proofs.Texts.{number-told, is-unread, few-lines, text-inverse, passed-files, passed-texts, passed-exact}
 use Rattle.services.proofs.Differences.{differ-texts}
 use Rattle.services.proofs.OneOutcome.{one-check}
@@ -120,12 +120,10 @@ module _ (circuit schedule : Bytes) where
   zero-passed (schedule-unread c n p e q) z = absurd (not-zero (number-told scheduleContext schedule n p q) z)
   zero-passed (both-read c s e q) z = success e q (check c s) refl z
 
-  comes-to : {o : Outcome} → CheckCase o → CheckComesTo circuit schedule o
-  comes-to (circuit-unread n p e) = Promises.circuit-unread n p (is-unread circuitContext circuit n p e)
-  comes-to (schedule-unread c n p e q) = Promises.schedule-unread c n p e (is-unread scheduleContext schedule n p q)
-  comes-to (both-read c s e q) =
-      Promises.both-read (record { circuit-file = c; schedule-file = s; circuit-reads = e; schedule-reads = q }) (answered 2 (check c s))
-      (judged e q (check c s) refl)
+  comes-to : {o : Outcome} → CheckCase o → OnceRead circuitContext circuit 1 (λ file. OnceRead scheduleContext schedule 2 (Verdict circuit)) o
+  comes-to (circuit-unread n p e) = Promises.unread n p (is-unread circuitContext circuit n p e)
+  comes-to (schedule-unread c n p e q) = Promises.is-read c _ e (Promises.unread n p (is-unread scheduleContext schedule n p q))
+  comes-to (both-read c s e q) = Promises.is-read c _ e (Promises.is-read s _ q (judged e q (check c s) refl))
 
   passed-zero : Passed circuit schedule → replyOf (checkOutcome circuit schedule) .number ≡ 0
   passed-zero p =
@@ -145,7 +143,7 @@ module _ (circuit schedule : Bytes) where
               record {
                 outcome = checkOutcome circuit schedule;
                 comes-to = comes-to check-case;
-                only = λ other c. one-check circuit schedule c (comes-to check-case);
+                only = λ other c. one-check circuit schedule other _ c (comes-to check-case);
               };
           reply = a;
           zero-is-passed = (λ z. zero-passed check-case (sym number ∙ z), λ p. number ∙ passed-zero p);

@@ -1,18 +1,17 @@
 -- What erasing replies is what is promised: the erasure's text, which reads as a circuit. Assumes nothing.
-use Prim.Native.Nat.{ℕ, suc, _≤_}
+use Prim.Native.Nat.{ℕ, suc}
 use native.Mathlib.Omega.{arith}
 use mathlib.Core.Path.{_≡_, refl, ap}
-use mathlib.Core.Bool.{Bool, true, false, cond}
+use mathlib.Core.Bool.{Bool, true, false, cond, not, _&&_}
 use mathlib.Core.List.{List, [], _∷_, _++_}
 use lib.Dec.{T, leb, leb→le}
 use lib.ListN.{length, getD}
 use Rattle.fields.specs.Pieces.{Bytes}
 use Rattle.model.specs.declared.Header.{Header}
 use Rattle.model.specs.declared.Line.{Line}
-use Rattle.model.specs.declared.Line.the-variants.{In, Const, Neg, Rot, Add, Mul, Out, Enc, Rs, Ms, Us, Free}
-use Rattle.model.specs.declared.Grammar.the-variants.{Circuit}
-use Rattle.model.specs.Files.{File, isCircuitWord, lineFormed, linesFormed}
-use Rattle.model.specs.Services.{fateOf, eraseFrom, erase, eraseFile}
+use Rattle.model.specs.declared.Grammar.the-variants.{Circuit, Schedule}
+use Rattle.model.specs.Files.{File, isWord, operands, lineFormed, linesFormed}
+use Rattle.model.specs.Services.{Fate, kept, madeFrom, renumbered, eraseFrom, eraseFile}
 use Rattle.model.proofs.Tests.{and-first, and-second}
 use Rattle.model.proofs.Formed.{line-facts, well-lines}
 use Rattle.model.proofs.Theorems as Model
@@ -23,42 +22,31 @@ use Rattle.services.specs.declared.Reply.{Reply}
 use Rattle.services.specs.Outcomes.{Outcome, writes, refuses, Replied}
 use Rattle.services.specs.Calls.{onceRead, eraseOutcome}
 use Rattle.services.specs.Promises as Promises
-use Rattle.services.specs.Promises.{EraseComesTo, ErasePromise}
+use Rattle.services.specs.Promises.{OnceRead, EraseComesTo, ErasePromise}
 use Rattle.services.proofs.Lending.{Writing, text, refusal, lent-replies}
 use Rattle.services.proofs.Texts.{is-unread, text-inverse, circuit-back}
 use Rattle.services.proofs.OneOutcome.{one-erasure}
 
--- ---- an erasure has no more lines than are kept
-erase-kept : (xs : List Line) (origins : List ℕ) (count : ℕ) → keptCount (eraseFrom origins count xs) ≤ keptCount xs
-erase-kept [] origins count = omega arith
-erase-kept (x ∷ xs) origins count = by-word x (erase-kept xs (origins ++ (count ∷ [])) (suc count)) (λ a. erase-kept xs (origins ++ (getD origins a count ∷ [])) count)
+-- ---- a schedule has as many lines with a circuit's word as its erasure has lines
+erased-count :
+    (h : Header) (before xs : List Line) → T (linesFormed Schedule h before xs) → (origins : List ℕ) (count : ℕ) → length (eraseFrom origins count xs) ≡ keptCount xs
+erased-count h before [] t origins count = refl
+erased-count h before (x ∷ xs) t origins count =
+    let here = and-first (lineFormed Schedule h before x) (linesFormed Schedule h (before ++ (x ∷ [])) xs) t in
+    let after = and-second (lineFormed Schedule h before x) (linesFormed Schedule h (before ++ (x ∷ [])) xs) t in
+    go (isWord Schedule x) (isWord Circuit x) (line-facts Schedule h before x here .word) (erased-count h (before ++ (x ∷ [])) xs after)
   where
-    by-word : (x : Line) → keptCount (eraseFrom (origins ++ (count ∷ [])) (suc count) xs) ≤ keptCount xs
-        → ((a : ℕ) → keptCount (eraseFrom (origins ++ (getD origins a count ∷ [])) count xs) ≤ keptCount xs)
-        → keptCount (eraseFrom origins count (x ∷ xs)) ≤ keptCount (x ∷ xs)
-    by-word In k s = omega arith
-    by-word (Const c) k s = omega arith
-    by-word (Neg a) k s = omega arith
-    by-word (Rot a t) k s = omega arith
-    by-word (Add a b) k s = omega arith
-    by-word (Mul a b) k s = omega arith
-    by-word (Out a) k s = omega arith
-    by-word (Enc a c e) k s = s a
-    by-word (Rs a c) k s = s a
-    by-word (Ms a c) k s = s a
-    by-word (Us a b) k s = s a
-    by-word Free k s = k
+    lines : Fate → List Line
+    lines f = elim f [
+      | kept ↦ renumbered origins count x ∷ eraseFrom (origins ++ (count ∷ [])) (suc count) xs
+      | madeFrom a ↦ eraseFrom (origins ++ (getD origins a count ∷ [])) count xs
+    ]
 
--- a circuit's lines all are
-all-kept : (h : Header) (before xs : List Line) → T (linesFormed Circuit h before xs) → keptCount xs ≡ length xs
-all-kept h before [] t = refl
-all-kept h before (x ∷ xs) t =
-    let f = line-facts Circuit h before x (and-first (lineFormed Circuit h before x) (linesFormed Circuit h (before ++ (x ∷ [])) xs) t) in
-    go (isCircuitWord x) (f .word) (all-kept h (before ++ (x ∷ [])) xs (and-second (lineFormed Circuit h before x) (linesFormed Circuit h (before ++ (x ∷ [])) xs) t))
-  where
-    go : (b : Bool) → T b → keptCount xs ≡ length xs → cond b (suc (keptCount xs)) (keptCount xs) ≡ suc (length xs)
-    go true t ih = ap suc ih
-    go false t ih = absurd t
+    go : (s c : Bool) → T s → ((os : List ℕ) (n : ℕ) → length (eraseFrom os n xs) ≡ keptCount xs)
+        → length (lines (cond (s && not c) (madeFrom (getD (operands x) 0 0)) kept)) ≡ cond c (suc (keptCount xs)) (keptCount xs)
+    go true true t rest = ap suc (rest (origins ++ (count ∷ [])) (suc count))
+    go true false t rest = rest (origins ++ (getD origins (getD (operands x) 0 0) count ∷ [])) count
+    go false c t rest = absurd t
 
 -- ---- what erasing comes to
 data EraseCase (schedule : Bytes) : Outcome → Type 0 where
@@ -82,19 +70,18 @@ module _ (schedule : Bytes) where
       let b = file-read-written eraseContext schedule e in
       let formed = Model.erasing (f .header) (f .lines) (b .formed) .formed in
       let kept = leb→le (keptCount (f .lines)) 256 (and-second (leb (length (f .lines)) 1792) (leb (keptCount (f .lines)) 256) (b .few)) in
-      let all = all-kept (f .header) [] (erase (f .lines)) (well-lines Circuit (f .header) (erase (f .lines)) formed) in
-      let most = erase-kept (f .lines) [] 0 in
+      let all = erased-count (f .header) [] (f .lines) (well-lines Schedule (f .header) (f .lines) (b .formed)) [] 0 in
       circuit-back (eraseFile f) formed (omega arith)
 
-  comes-to : {o : Outcome} → EraseCase schedule o → EraseComesTo schedule o
+  comes-to : {o : Outcome} → EraseCase schedule o → OnceRead eraseContext schedule 1 EraseComesTo o
   comes-to (unread n p e) = Promises.unread n p (is-unread eraseContext schedule n p e)
-  comes-to (erased f e) = Promises.erases f (fileText Circuit (eraseFile f)) e refl (erasure-reads e)
+  comes-to (erased f e) = Promises.is-read f _ e (Promises.erases (fileText Circuit (eraseFile f)) refl (erasure-reads e))
 
 pub erase-promise : (schedule out : Bytes) (r : Reply) (after : Bytes) → Replied (eraseOutcome schedule) out r after → ErasePromise schedule out r after
 erase-promise schedule out r after a =
     let case = erase-case schedule in
     record {
       inverse = text-inverse eraseContext (omega arith) schedule;
-      call = record { outcome = eraseOutcome schedule; comes-to = comes-to schedule case; only = λ other c. one-erasure schedule c (comes-to schedule case) };
+      call = record { outcome = eraseOutcome schedule; comes-to = comes-to schedule case; only = λ other c. one-erasure schedule other _ c (comes-to schedule case) };
       replies = lent-replies out r after (case-writing case) a;
     }

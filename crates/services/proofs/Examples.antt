@@ -12,7 +12,7 @@ use Rattle.services.specs.Outcomes.{Outcome, writes, refuses, lent, repl
 use Rattle.services.specs.Calls.{planOutcome, checkOutcome}
 use Rattle.services.specs.declared.Reply.{Reply}
 use Rattle.services.specs.Promises as Promises
-use Rattle.services.specs.Promises.{Passed, TooFew, PlanComesTo}
+use Rattle.services.specs.Promises.{OnceRead, Passed, TooFew, PlanComesTo}
 use Rattle.services.specs.Worked.{comesTo, shown, listing, listingByHand, fourth}
 use Rattle.services.proofs.Planning.{plan-comes-to}
 use Rattle.services.proofs.Checking.{check-promise}
@@ -38,14 +38,14 @@ pub record TooFewAt (circuit : Bytes) (place : ℕ) : Type 0 where
   pub reads : readText circuitContext circuit ≡ read file
   pub is : TooFew (file .header) (file .lines) place
 
-too-few-told : {circuit : Bytes} {o : Outcome} (place : ℕ) → PlanComesTo circuit o → o ≡ refuses 6 1 place → TooFewAt circuit place
+too-few-told : {circuit : Bytes} {o : Outcome} (place : ℕ) → OnceRead circuitContext circuit 1 (PlanComesTo circuit) o → o ≡ refuses 6 1 place → TooFewAt circuit place
 too-few-told place (Promises.unread n p u) e =
     let six : n ≡ 6 = cc in
     absurd (let few = u .by-reading (λ z. omega arith) .1 in omega arith)
-too-few-told place (Promises.too-few f p e t) q =
+too-few-told place (Promises.is-read f o e (Promises.too-few p t)) q =
     let same : p ≡ place = cc in
     record { file = f; reads = e; is = subst (TooFew (f .header) (f .lines)) same t }
-too-few-told place (Promises.plans w p) e = absurd (let z : _≡_ {A = ℕ} 0 1 = cc in omega arith)
+too-few-told place (Promises.is-read f o i (Promises.plans w p)) e = absurd (let z : _≡_ {A = ℕ} 0 1 = cc in omega arith)
 
 pub fourth-has-no-schedule : TooFewAt (shown fourth) 4
 fourth-has-no-schedule = too-few-told 4 (plan-comes-to (shown fourth)) (comes-to (worked 4 (lit< tt)))

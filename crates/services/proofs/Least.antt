@@ -26,7 +26,7 @@ use Rattle.services.specs.declared.Reply.{Reply}
 use Rattle.services.specs.Outcomes.{Outcome, fitsAt, refuses, replyOf}
 use Rattle.services.specs.Calls.{answered, onceRead, leastOutcome}
 use Rattle.services.specs.Promises as Promises
-use Rattle.services.specs.Promises.{Plans, Fits, withLevel, Least, NoneFits, LeastComesTo, LeastPromise}
+use Rattle.services.specs.Promises.{OnceRead, Plans, Fits, withLevel, Least, NoneFits, LeastComesTo, LeastPromise}
 use Rattle.services.proofs.Planning.{too-few-at, plans-text}
 use Rattle.services.proofs.Texts.{not-both, one-file, is-unread, few-lines, circuit-back, text-inverse}
 use Rattle.services.proofs.OneOutcome.{one-level}
@@ -98,14 +98,17 @@ module _ (circuit : Bytes) where
         at-sixty = too-few-at (LeastLevel.atSixty f) p formed (right e .too-few 6 p q .as-planned);
       }
 
-  comes-to : {o : Outcome} → LeastCase circuit o → LeastComesTo circuit o
+  abbrev Comes : Outcome → Type 0
+  Comes = OnceRead circuitContext circuit 1 LeastComesTo
+
+  comes-to : {o : Outcome} → LeastCase circuit o → Comes o
   comes-to (unread n p e) = Promises.unread n p (is-unread circuitContext circuit n p e)
-  comes-to (found f l e q) = Promises.fits-from f l e (is-least e (right e .level l q))
+  comes-to (found f l e q) = Promises.is-read f _ e (Promises.fits-from l (is-least e (right e .level l q)))
   comes-to (few f p e q) =
       let is = none-fits p e q in
-      subst (λ (n : ℕ). LeastComesTo circuit (refuses 6 n p)) (sym (circuit-named p (λ z. omega (arith, is .at-sixty .place-is)))) (Promises.too-few f p e is)
+      subst (λ (n : ℕ). Comes (refuses 6 n p)) (sym (circuit-named p (λ z. omega (arith, is .at-sixty .place-is)))) (Promises.is-read f _ e (Promises.too-few p is))
 
-  least-comes-to : LeastComesTo circuit (leastOutcome circuit)
+  least-comes-to : Comes (leastOutcome circuit)
   least-comes-to = comes-to least-case
 
   -- 6 exactly where there is no schedule at 60
@@ -127,7 +130,7 @@ least-promise circuit r e =
           record {
             outcome = leastOutcome circuit;
             comes-to = least-comes-to circuit;
-            only = λ other c. one-level circuit c (least-comes-to circuit);
+            only = λ other c. one-level circuit other _ c (least-comes-to circuit);
           };
       reply = e;
       too-few-iff = exactly circuit r (least-case circuit) e;

@@ -4,7 +4,6 @@ use native.Mathlib.Omega.{arith}
 use mathlib.Core.Path.{_≡_, refl, sym, ap, _∙_, subst}
 use mathlib.Core.Logic.{_⊎_, inl, inr}
 use mathlib.Core.List.{List}
-use mathlib.Core.Option.{some}
 use lib.Dec.{T}
 use lib.ListN.{length, getD, take, length-take}
 use lib.Seq.{getD-take, take-take}
@@ -12,21 +11,20 @@ use Rattle.fields.specs.Pieces.{Bytes, lineFeed, split}
 use Rattle.model.specs.declared.Header.{Header}
 use Rattle.model.specs.declared.Line.{Line}
 use Rattle.model.specs.declared.Line.the-variants.{Free}
-use Rattle.model.specs.declared.Grammar.the-variants.{Circuit, Schedule}
-use Rattle.rows.specs.Rows.{placeOf, Reading, read, refused}
+use Rattle.model.specs.declared.Grammar.the-variants.{Schedule}
+use Rattle.rows.specs.Rows.{placeOf, Reading, read, refused, bad, judged}
 use Rattle.model.specs.Files.{File}
-use Rattle.model.specs.Machine.{stopped, run}
-use Rattle.model.specs.Plan.{bestMachine}
 use Rattle.model.specs.Rules.{KeepsRules, Rule, Bounds, hasScale}
-use Rattle.model.specs.Services.{scheduled, plan, eraseFile}
-use Rattle.model.specs.Broken.{firstFault, lineFaults, FirstBroken}
+use Rattle.model.specs.Services.{scheduled, plan}
+use Rattle.model.specs.Broken.{ruleTests, FirstBroken}
 use Rattle.model.specs.Demands.{Schedulable}
 use Rattle.model.proofs.Tests.{below-or-not}
+use Rattle.text.specs.declared.Context.{Context}
 use Rattle.text.specs.Files.{readText, circuitContext, scheduleContext, eraseContext, fileText}
-use Rattle.services.specs.Outcomes.{Outcome, writes, passes, fitsAt, refuses}
+use Rattle.services.specs.Outcomes.{Outcome, writes, fitsAt, refuses}
 use Rattle.services.specs.Promises as Promises
-use Rattle.services.specs.Promises.{Plans, TooFew, PlanComesTo, TextsDifferAt, Verdict, keeps-rules, other-circuit, breaks-rule}
-use Rattle.services.specs.Promises.{CheckComesTo, EraseComesTo, Least, LeastComesTo}
+use Rattle.services.specs.Promises.{OnceRead, unread, is-read, TooFew, PlanComesTo, TextsDifferAt, Verdict, keeps-rules, other-circuit, breaks-rule}
+use Rattle.services.specs.Promises.{EraseComesTo, Least, LeastComesTo}
 use Rattle.services.proofs.Texts.{not-both, one-file}
 
 -- ---- one reading, one line, one level
@@ -52,49 +50,49 @@ least-level : {file : File} {l m : ℕ} → Least file l → Least file m → l 
 least-level {file} {l} {m} x y =
     neither-below l m (λ u. y .least l (x .low) u (x .fits)) (λ u. x .least m (y .low) u (y .fits))
 
+abbrev pub One : (Outcome → Type 0) → Type 0
+One ComesTo = (o q : Outcome) → ComesTo o → ComesTo q → o ≡ q
+
+-- a text is refused in one way, or is read to one file: where one outcome follows of that file, one follows of the text
+one-read : (c : Context) (text : Bytes) (which : ℕ) (Then : File → Outcome → Type 0) → ((f : File) → readText c text ≡ read f → One (Then f)) → One (OnceRead c text which Then)
+one-read c text which Then each o q (unread m p u) (unread n r v) = same-refusal which (u .is-refused) (v .is-refused)
+one-read c text which Then each o q (unread m p u) (is-read f w e t) = not-both e (u .is-refused)
+one-read c text which Then each o q (is-read f w e t) (unread n r v) = not-both e (v .is-refused)
+one-read c text which Then each o q (is-read f v e t) (is-read k w i s) = each f e o q t (subst (λ (x : File). Then x q) (one-file i e) s)
+
 -- ---- plan
-pub one-plan : (circuit : Bytes) {o q : Outcome} → PlanComesTo circuit o → PlanComesTo circuit q → o ≡ q
-one-plan circuit (Promises.unread m p u) (Promises.unread n q v) = same-refusal 1 (u .is-refused) (v .is-refused)
-one-plan circuit (Promises.unread m p u) (Promises.too-few f q e t) = not-both e (u .is-refused)
-one-plan circuit (Promises.unread m p u) (Promises.plans w x) = not-both (x .passed .files .circuit-reads) (u .is-refused)
-one-plan circuit (Promises.too-few f p e s) (Promises.unread n q v) = not-both e (v .is-refused)
-one-plan circuit (Promises.too-few f p e s) (Promises.too-few k q i t) =
-    ap (refuses 6 1) (too-few-place s (subst (λ (x : File). TooFew (x .header) (x .lines) q) (one-file i e) t))
-one-plan circuit (Promises.too-few f p e s) (Promises.plans w x) =
+planned-once : (circuit : Bytes) (f : File) → readText circuitContext circuit ≡ read f → One (PlanComesTo circuit f)
+planned-once circuit f e o q (Promises.too-few p s) (Promises.too-few r t) = ap (refuses 6 1) (too-few-place s t)
+planned-once circuit f e o q (Promises.too-few p s) (Promises.plans w x) =
     absurd (s .no-schedule (subst (λ (k : File). Schedulable (k .header) (k .lines)) (one-file (x .passed .files .circuit-reads) e) (x .exists)))
-one-plan circuit (Promises.plans w x) (Promises.unread n q v) = not-both (x .passed .files .circuit-reads) (v .is-refused)
-one-plan circuit (Promises.plans w x) (Promises.too-few f p e s) =
+planned-once circuit f e o q (Promises.plans w x) (Promises.too-few p s) =
     absurd (s .no-schedule (subst (λ (k : File). Schedulable (k .header) (k .lines)) (one-file (x .passed .files .circuit-reads) e) (x .exists)))
-one-plan circuit (Promises.plans w x) (Promises.plans v y) =
+planned-once circuit f e o q (Promises.plans w x) (Promises.plans v y) =
     let is = x .is-plan in
     let other : plan (x .passed .files .circuit-file) ≡ scheduled (y .passed .files .schedule-file) =
     ap plan (one-file (x .passed .files .circuit-reads) (y .passed .files .circuit-reads)) ∙ y .is-plan in
     let same : x .passed .files .schedule-file ≡ y .passed .files .schedule-file = cc in
     ap writes (x .text-is ∙ ap (fileText Schedule) same ∙ sym (y .text-is))
 
+pub one-plan : (circuit : Bytes) → One (OnceRead circuitContext circuit 1 (PlanComesTo circuit))
+one-plan circuit = one-read circuitContext circuit 1 (PlanComesTo circuit) (planned-once circuit)
+
 -- ---- erase
-pub one-erasure : (schedule : Bytes) {o q : Outcome} → EraseComesTo schedule o → EraseComesTo schedule q → o ≡ q
-one-erasure schedule (Promises.unread m p u) (Promises.unread n q v) = same-refusal 1 (u .is-refused) (v .is-refused)
-one-erasure schedule (Promises.unread m p u) (Promises.erases f w e t r) = not-both e (u .is-refused)
-one-erasure schedule (Promises.erases f w e t r) (Promises.unread n q v) = not-both e (v .is-refused)
-one-erasure schedule (Promises.erases f w e t r) (Promises.erases k v i s d) =
-    ap writes (t ∙ ap (λ (x : File). fileText Circuit (eraseFile x)) (one-file e i) ∙ sym s)
+pub one-erasure : (schedule : Bytes) → One (OnceRead eraseContext schedule 1 EraseComesTo)
+one-erasure schedule = one-read eraseContext schedule 1 EraseComesTo once
+  where
+    once : (f : File) → readText eraseContext schedule ≡ read f → One (EraseComesTo f)
+    once f e o q (Promises.erases w t r) (Promises.erases v s d) = subst (λ (x : Bytes). writes w ≡ writes x) (sym s) (ap writes t)
 
 -- ---- least level
-pub one-level : (circuit : Bytes) {o q : Outcome} → LeastComesTo circuit o → LeastComesTo circuit q → o ≡ q
-one-level circuit (Promises.unread m p u) (Promises.unread n q v) = same-refusal 1 (u .is-refused) (v .is-refused)
-one-level circuit (Promises.unread m p u) (Promises.fits-from f l e x) = not-both e (u .is-refused)
-one-level circuit (Promises.unread m p u) (Promises.too-few f q e t) = not-both e (u .is-refused)
-one-level circuit (Promises.fits-from f l e x) (Promises.unread n q v) = not-both e (v .is-refused)
-one-level circuit (Promises.fits-from f l e x) (Promises.fits-from k m i y) =
-    ap fitsAt (least-level x (subst (λ (z : File). Least z m) (one-file i e) y))
-one-level circuit (Promises.fits-from f l e x) (Promises.too-few k q i t) =
-    absurd (t .none-fits l (x .low) (x .high) (subst (λ (z : File). Promises.Fits z l) (one-file e i) (x .fits)))
-one-level circuit (Promises.too-few f p e s) (Promises.unread n q v) = not-both e (v .is-refused)
-one-level circuit (Promises.too-few f p e s) (Promises.fits-from k m i y) =
-    absurd (s .none-fits m (y .low) (y .high) (subst (λ (z : File). Promises.Fits z m) (one-file i e) (y .fits)))
-one-level circuit (Promises.too-few f p e s) (Promises.too-few k q i t) =
-    ap (refuses 6 1) (too-few-place (s .at-sixty) (subst (λ (z : File). Promises.NoneFits z q) (one-file i e) t .at-sixty))
+pub one-level : (circuit : Bytes) → One (OnceRead circuitContext circuit 1 LeastComesTo)
+one-level circuit = one-read circuitContext circuit 1 LeastComesTo once
+  where
+    once : (f : File) → readText circuitContext circuit ≡ read f → One (LeastComesTo f)
+    once f e o q (Promises.fits-from l x) (Promises.fits-from m y) = ap fitsAt (least-level x y)
+    once f e o q (Promises.fits-from l x) (Promises.too-few r t) = absurd (t .none-fits l (x .low) (x .high) (x .fits))
+    once f e o q (Promises.too-few p s) (Promises.fits-from m y) = absurd (s .none-fits m (y .low) (y .high) (y .fits))
+    once f e o q (Promises.too-few p s) (Promises.too-few r t) = ap (refuses 6 1) (too-few-place (s .at-sixty) (t .at-sixty))
 
 -- ---- check
 -- lines that keep the rules do so up to any line
@@ -116,7 +114,8 @@ keeps-up-to {h} xs k n = record { scale = k .scale; level = k .level; rules = ru
 keeps-shorter : {h : Header} (xs : List Line) (m n : ℕ) → m ≤ n → KeepsRules h (take n xs) → KeepsRules h (take m xs)
 keeps-shorter {h} xs m n u k = subst (KeepsRules h) (take-take m n xs u) (keeps-up-to (take n xs) k m)
 
-first-broken-one : {h : Header} {xs : List Line} {m p n q : ℕ} → FirstBroken h xs m p → FirstBroken h xs n q → refuses m 2 p ≡ refuses n 2 q
+first-broken-one :
+    {h : Header} {xs : List Line} {m p n q file : ℕ} → FirstBroken h xs m p → FirstBroken h xs n q → refuses m file p ≡ refuses n file q
 first-broken-one {h} {xs} {m} {p} {n} {q} x y =
     let line = neither-below (x .line) (y .line) (λ u. x .with-it (keeps-shorter xs (suc (x .line)) (y .line) u (y .before)))
     (λ u. y .with-it (keeps-shorter xs (suc (y .line)) (x .line) u (x .before))) in
@@ -128,7 +127,7 @@ first-broken-one {h} {xs} {m} {p} {n} {q} x y =
     cc
   where
     NumberAt : ℕ → ℕ → Type 0
-    NumberAt k i = (r : KeepsRules h (take i xs)) → firstFault (lineFaults h (r .scale) (r .level) (getD xs i Free)) ≡ some k
+    NumberAt k i = (r : KeepsRules h (take i xs)) → judged (ruleTests h (r .scale) (r .level) (getD xs i Free)) (getD xs i Free) ≡ bad k
 
 texts-differ-one : {xs ys : List Bytes} {p q : ℕ} → TextsDifferAt xs ys p → TextsDifferAt xs ys q → p ≡ q
 texts-differ-one {xs} {ys} {p} {q} x y =
@@ -154,14 +153,7 @@ one-verdict circuit s (breaks-rule n p i b) (keeps-rules e k) = absurd (b .with-
 one-verdict circuit s (breaks-rule n p e b) (other-circuit q x) = same-texts e x
 one-verdict circuit s (breaks-rule m p e a) (breaks-rule n q i b) = first-broken-one a b
 
-pub one-check : (circuit schedule : Bytes) {o q : Outcome} → CheckComesTo circuit schedule o → CheckComesTo circuit schedule q → o ≡ q
-one-check circuit schedule (Promises.circuit-unread m p u) (Promises.circuit-unread n q v) = same-refusal 1 (u .is-refused) (v .is-refused)
-one-check circuit schedule (Promises.circuit-unread m p u) (Promises.schedule-unread f n q e v) = not-both e (u .is-refused)
-one-check circuit schedule (Promises.circuit-unread m p u) (Promises.both-read b q v) = not-both (b .circuit-reads) (u .is-refused)
-one-check circuit schedule (Promises.schedule-unread f m p e u) (Promises.circuit-unread n q v) = not-both e (v .is-refused)
-one-check circuit schedule (Promises.schedule-unread f m p e u) (Promises.schedule-unread k n q i v) = same-refusal 2 (u .is-refused) (v .is-refused)
-one-check circuit schedule (Promises.schedule-unread f m p e u) (Promises.both-read b q v) = not-both (b .schedule-reads) (u .is-refused)
-one-check circuit schedule (Promises.both-read b o v) (Promises.circuit-unread n q u) = not-both (b .circuit-reads) (u .is-refused)
-one-check circuit schedule (Promises.both-read b o v) (Promises.schedule-unread k n q i u) = not-both (b .schedule-reads) (u .is-refused)
-one-check circuit schedule (Promises.both-read b o v) (Promises.both-read d q w) =
-    one-verdict circuit (b .schedule-file) v (subst (λ (s : File). Verdict circuit s q) (one-file (d .schedule-reads) (b .schedule-reads)) w)
+pub one-check : (circuit schedule : Bytes) → One (OnceRead circuitContext circuit 1 (λ file. OnceRead scheduleContext schedule 2 (Verdict circuit)))
+one-check circuit schedule =
+    one-read circuitContext circuit 1 (λ file. OnceRead scheduleContext schedule 2 (Verdict circuit))
+    (λ f e. one-read scheduleContext schedule 2 (Verdict circuit) (λ s i o q. one-verdict circuit s))

@@ -20,7 +20,7 @@ use Rattle.services.specs.Outcomes.{Outcome, writes, refuses, Replied}
 use Rattle.services.specs.Calls.{onceRead, planned, planOutcome}
 use Rattle.model.specs.Demands.{Schedulable}
 use Rattle.services.specs.Promises as Promises
-use Rattle.services.specs.Promises.{Passed, IsBest, TooFew, Plans, PlanComesTo, PlanPromise}
+use Rattle.services.specs.Promises.{OnceRead, Passed, IsBest, TooFew, Plans, PlanComesTo, PlanPromise}
 use Rattle.services.proofs.Lending.{Writing, text, refusal, by-room, lent-replies}
 use Rattle.services.proofs.Texts.{not-both, one-file, is-unread, few-lines, text-inverse, schedule-back, passed-texts, passed-exact}
 use Rattle.services.proofs.OneOutcome.{one-plan}
@@ -104,7 +104,7 @@ module _ (circuit : Bytes) where
     plan-is : plan (p .files .circuit-file) ≡ scheduled (p .files .schedule-file)
     plan-is = ap plan (one-file (p .files .circuit-reads) e) ∙ q ∙ ap scheduled same-schedule
 
-    plan-best : IsBest circuit (fileText Schedule s) p
+    plan-best : IsBest p
     plan-best other = Model.best-reserve (p .files .circuit-file) (back (p .files .circuit-reads) .formed) (p .files .schedule-file) plan-is (p .keeps) other
 
   -- there is a schedule
@@ -123,12 +123,12 @@ module _ (circuit : Bytes) where
         best = plan-best e q p;
       }
 
-  case-comes-to : {o : Outcome} → PlanCase circuit o → PlanComesTo circuit o
+  case-comes-to : {o : Outcome} → PlanCase circuit o → OnceRead circuitContext circuit 1 (PlanComesTo circuit) o
   case-comes-to (unread n p e) = Promises.unread n p (is-unread circuitContext circuit n p e)
-  case-comes-to (few f p e q) = Promises.too-few f p e (too-few-at f p (back e .formed) q)
-  case-comes-to (written f s e q) = Promises.plans (fileText Schedule s) (plans-text e q)
+  case-comes-to (few f p e q) = Promises.is-read f _ e (Promises.too-few p (too-few-at f p (back e .formed) q))
+  case-comes-to (written f s e q) = Promises.is-read f _ e (Promises.plans (fileText Schedule s) (plans-text e q))
 
-  pub plan-comes-to : PlanComesTo circuit (planOutcome circuit)
+  pub plan-comes-to : OnceRead circuitContext circuit 1 (PlanComesTo circuit) (planOutcome circuit)
   plan-comes-to = case-comes-to plan-case
 
 module _ (circuit out : Bytes) (r : Reply) (after : Bytes) where
@@ -152,7 +152,7 @@ pub plan-promise : (circuit out : Bytes) (r : Reply) (after : Bytes) → Replied
 plan-promise circuit out r after a =
     record {
       inverse = text-inverse circuitContext (omega arith) circuit;
-      call = record { outcome = planOutcome circuit; comes-to = plan-comes-to circuit; only = λ other c. one-plan circuit c (plan-comes-to circuit) };
+      call = record { outcome = planOutcome circuit; comes-to = plan-comes-to circuit; only = λ other c. one-plan circuit other _ c (plan-comes-to circuit) };
       replies = lent-replies out r after (case-writing (plan-case circuit)) a;
       too-few-iff = exactly circuit out r after (plan-case circuit) a;
     }

@@ -92,5 +92,5 @@ module _ (circuit schedule : Bytes) where
         erases = ap (fileText Circuit) (p .erases) ∙ b .written;
       }
 
-  pub passed-exact : (p : Passed circuit schedule) → IsExact circuit schedule p
+  pub passed-exact : (p : Passed circuit schedule) → IsExact (p .files)
   passed-exact p H = Model.exactness (p .files .circuit-file) (p .files .schedule-file) (passed-files p) H

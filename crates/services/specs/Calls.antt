@@ -1,4 +1,5 @@
--- What each call comes to, composed of the services on files, as the code has it. No promise rests on this: Promises says what it means.
+-- What each call comes to, composed of the services on files, as the code has it. No promise of an exported service rests on this:
+-- Promises says what it means.
 use Prim.Native.Nat.{ℕ}
 use Rattle.fields.specs.Pieces.{Bytes}
 use Rattle.model.specs.declared.Grammar.the-variants.{Circuit, Schedule}

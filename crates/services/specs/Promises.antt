@@ -59,6 +59,12 @@ pub record Unread (c : Context) (text : Bytes) (number place : ℕ) : Type 0 whe
   -- what follows: by 1 to 5, or 11
   pub by-reading : (number ≡ 11 → ⊥) → (1 ≤ number) × (number ≤ 5)
 
+-- what a call comes to that reads this text, and "which of them, counted from 1 in the order read": the refusal of the text, or what
+-- follows of its file
+pub data OnceRead (c : Context) (text : Bytes) (which : ℕ) (Then : File → Outcome → Type 0) : Outcome → Type 0 where
+  unread : (number place : ℕ) → Unread c text number place → OnceRead c text which Then (refuses number which place)
+  is-read : (file : File) (outcome : Outcome) → readText c text ≡ read file → Then file outcome → OnceRead c text which Then outcome
+
 -- both files are read
 pub record BothRead (circuit schedule : Bytes) : Type 0 where
   pub circuit-file : File
@@ -75,10 +81,8 @@ pub record Passed (circuit schedule : Bytes) : Type 0 where
 
 -- ---- demand 3
 -- "whatever whole numbers its inputs and constants are, …": the two machines on the files of these bytes
-abbrev pub IsExact : (circuit schedule : Bytes) → Passed circuit schedule → Type 0
-IsExact circuit schedule p =
-    let schedule-file = p .files .schedule-file in
-    (H : Handed) → Exact H (schedule-file .header) (p .files .circuit-file .lines) (schedule-file .lines)
+abbrev pub IsExact : {circuit schedule : Bytes} → BothRead circuit schedule → Type 0
+IsExact files = (H : Handed) → Exact H (files .schedule-file .header) (files .circuit-file .lines) (files .schedule-file .lines)
 
 -- 6 at this place, of the lines of a circuit under a header: no schedule exists, and it is told "at the first line with best reserve below
 -- zero": the lines before it have a schedule, and with it they have none
@@ -94,8 +98,8 @@ pub record TooFew (h : Header) (lines : List Line) (place : ℕ) : Type 0 where
 
 -- "best reserve": no schedule of this circuit leaves more at a ciphertext line. Said against every schedule, so that it rests on the rules
 -- and not on the plan's own formulas.
-abbrev pub IsBest : (circuit schedule : Bytes) → Passed circuit schedule → Type 0
-IsBest circuit schedule p =
+abbrev pub IsBest : {circuit schedule : Bytes} → Passed circuit schedule → Type 0
+IsBest p =
     let file = p .files .circuit-file in
     (other : Schedulable (file .header) (file .lines)) (j : ℕ) → T (isCiphertext (kindAt (file .lines) j))
     → reserveAt (other .keeps) j ≤ℤ reserveAt (p .keeps) j
@@ -109,20 +113,18 @@ pub record Plans (circuit written : Bytes) : Type 0 where
   pub text-is : written ≡ fileText Schedule (passed .files .schedule-file)
   -- what follows
   pub exists : Schedulable (passed .files .circuit-file .header) (passed .files .circuit-file .lines)
-  pub exact : IsExact circuit written passed
-  pub best : IsBest circuit written passed
+  pub exact : IsExact (passed .files)
+  pub best : IsBest passed
 
 -- "planning, once all is read without a refusal, says it exactly when there is none, and otherwise writes the plan of 2 if the buffer
 -- holds it"
-pub data PlanComesTo (circuit : Bytes) : Outcome → Type 0 where
-  unread : (number place : ℕ) → Unread circuitContext circuit number place → PlanComesTo circuit (refuses number 1 place)
-  too-few : (file : File) (place : ℕ) → readText circuitContext circuit ≡ read file → TooFew (file .header) (file .lines) place
-      → PlanComesTo circuit (refuses 6 1 place)
-  plans : (written : Bytes) → Plans circuit written → PlanComesTo circuit (writes written)
+pub data PlanComesTo (circuit : Bytes) (file : File) : Outcome → Type 0 where
+  too-few : (place : ℕ) → TooFew (file .header) (file .lines) place → PlanComesTo circuit file (refuses 6 1 place)
+  plans : (written : Bytes) → Plans circuit written → PlanComesTo circuit file (writes written)
 
 pub record PlanPromise (circuit out : Bytes) (r : Reply) (after : Bytes) : Type 0 where
   pub inverse : IsInverse circuitContext circuit
-  pub call : TheOutcome (PlanComesTo circuit)
+  pub call : TheOutcome (OnceRead circuitContext circuit 1 (PlanComesTo circuit))
   pub replies : Lent (call .outcome) out r after
   -- "exactly when there is none"
   pub too-few-iff : (file : File) → readText circuitContext circuit ≡ read file
@@ -146,31 +148,23 @@ pub data Verdict (circuit : Bytes) (schedule : File) : Outcome → Type 0 where
   breaks-rule : (number place : ℕ) → fileText Circuit (eraseFile schedule) ≡ circuit
       → FirstBroken (schedule .header) (schedule .lines) number place → Verdict circuit schedule (refuses number 2 place)
 
--- "Files are read top to bottom, circuit first"
-pub data CheckComesTo (circuit schedule : Bytes) : Outcome → Type 0 where
-  circuit-unread : (number place : ℕ) → Unread circuitContext circuit number place → CheckComesTo circuit schedule (refuses number 1 place)
-  schedule-unread : (file : File) (number place : ℕ) → readText circuitContext circuit ≡ read file
-      → Unread scheduleContext schedule number place → CheckComesTo circuit schedule (refuses number 2 place)
-  both-read : (b : BothRead circuit schedule) (outcome : Outcome) → Verdict circuit (b .schedule-file) outcome
-      → CheckComesTo circuit schedule outcome
-
 pub record CheckPromise (circuit schedule : Bytes) (r : Reply) : Type 0 where
   pub inverse-circuit : IsInverse circuitContext circuit
   pub inverse-schedule : IsInverse scheduleContext schedule
-  pub call : TheOutcome (CheckComesTo circuit schedule)
+  -- "Files are read top to bottom, circuit first"
+  pub call : TheOutcome (OnceRead circuitContext circuit 1 (λ file. OnceRead scheduleContext schedule 2 (Verdict circuit)))
   pub reply : r ≡ replyOf (call .outcome)
   pub zero-is-passed : (r .number ≡ 0) ↔ Passed circuit schedule
-  pub exact : (p : Passed circuit schedule) → IsExact circuit schedule p
+  pub exact : (p : Passed circuit schedule) → IsExact (p .files)
 
 -- ---- erase: the erasure's text, which is a circuit
-pub data EraseComesTo (schedule : Bytes) : Outcome → Type 0 where
-  unread : (number place : ℕ) → Unread eraseContext schedule number place → EraseComesTo schedule (refuses number 1 place)
-  erases : (file : File) (written : Bytes) → readText eraseContext schedule ≡ read file → written ≡ fileText Circuit (eraseFile file)
-      → readText circuitContext written ≡ read (eraseFile file) → EraseComesTo schedule (writes written)
+pub data EraseComesTo (file : File) : Outcome → Type 0 where
+  erases : (written : Bytes) → written ≡ fileText Circuit (eraseFile file) → readText circuitContext written ≡ read (eraseFile file)
+      → EraseComesTo file (writes written)
 
 pub record ErasePromise (schedule out : Bytes) (r : Reply) (after : Bytes) : Type 0 where
   pub inverse : IsInverse eraseContext schedule
-  pub call : TheOutcome (EraseComesTo schedule)
+  pub call : TheOutcome (OnceRead eraseContext schedule 1 EraseComesTo)
   pub replies : Lent (call .outcome) out r after
 
 -- ---- least level
@@ -197,14 +191,12 @@ pub record NoneFits (file : File) (place : ℕ) : Type 0 where
   pub none-fits : (k : ℕ) → 1 ≤ k → k ≤ 60 → Fits file k → ⊥
   pub at-sixty : TooFew (withTop (file .header) 60) (file .lines) place
 
-pub data LeastComesTo (circuit : Bytes) : Outcome → Type 0 where
-  unread : (number place : ℕ) → Unread circuitContext circuit number place → LeastComesTo circuit (refuses number 1 place)
-  fits-from : (file : File) (l : ℕ) → readText circuitContext circuit ≡ read file → Least file l → LeastComesTo circuit (fitsAt l)
-  too-few : (file : File) (place : ℕ) → readText circuitContext circuit ≡ read file → NoneFits file place
-      → LeastComesTo circuit (refuses 6 1 place)
+pub data LeastComesTo (file : File) : Outcome → Type 0 where
+  fits-from : (l : ℕ) → Least file l → LeastComesTo file (fitsAt l)
+  too-few : (place : ℕ) → NoneFits file place → LeastComesTo file (refuses 6 1 place)
 
 pub record LeastPromise (circuit : Bytes) (r : Reply) : Type 0 where
   pub inverse : IsInverse circuitContext circuit
-  pub call : TheOutcome (LeastComesTo circuit)
+  pub call : TheOutcome (OnceRead circuitContext circuit 1 LeastComesTo)
   pub reply : r ≡ replyOf (call .outcome)
   pub too-few-iff : (file : File) → readText circuitContext circuit ≡ read file → (r .number ≡ 6) ↔ (Fits file 60 → ⊥)

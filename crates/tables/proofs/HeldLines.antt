@@ -1,14 +1,28 @@
--- The lines of a table one after another: the next one that is read, and one more that is stored. Assumes nothing.
+-- The lines of a table one after another: how many there are, the next one that is read, and one more that is stored. Assumes nothing.
 use Prim.Native.Nat.{ℕ, zero, suc, _+_, _≤_, _<_}
 use native.Mathlib.Numerals.{add-one}
 use native.Mathlib.Omega.{arith}
-use mathlib.Core.Path.{_≡_, refl, ap, _∙_}
+use mathlib.Core.Path.{_≡_, refl, sym, ap, _∙_}
 use mathlib.Core.List.{List, [], _∷_, _++_}
+use lib.Dec.{leb→le}
 use lib.ListN.{length, getD, take, drop, set, length-map, drop-of-length-le}
 use lib.Seq.{length-take-le, drop-cons, getD-take, take-suc-set}
+use Rattle.model.specs.declared.Grammar.{Grammar}
+use Rattle.model.specs.declared.Header.{Header}
 use Rattle.model.specs.declared.Line.{Line}
 use Rattle.model.specs.declared.Line.the-variants.{Free}
-use Rattle.tables.specs.Records.{lineOf, linesOf, linesHeld}
+use Rattle.model.specs.Files.{limit}
+use Rattle.text.specs.Tables.{TableFormed}
+use Rattle.text.proofs.Tables.{limit-most}
+use Rattle.tables.specs.Records.{lineOf, linesOf, linesHeld, held}
+
+-- ---- a well-formed table
+module _ (g : Grammar) (h : Header) (records : List (List ℕ)) (count : ℕ) (f : TableFormed g (held h records count)) where
+  pub formed-few : count ≤ 1792
+  formed-few = omega (arith, leb→le count (limit g) (f .few), limit-most g)
+
+  pub formed-long : length records ≡ 1792
+  formed-long = sym (length-map records lineOf) ∙ f .room
 
 -- ---- reading
 pub records-long : (records : List (List ℕ)) → length records ≡ 1792 → length (linesOf records) ≡ 1792

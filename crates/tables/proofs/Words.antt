@@ -10,8 +10,6 @@ use lib.Dec.{T, ltb}
 use lib.IntN.{ℤ, pos}
 use lib.ListN.{length, getD, length-take, List·getD-map, List·getD-eq-default}
 use lib.Seq.{getD-take}
-use mir.Syntax.{w16}
-use mir.Val.{Fits}
 use Rattle.model.specs.declared.Line.{Line}
 use Rattle.model.specs.declared.Line.the-variants as Lines
 use Rattle.model.specs.declared.Line.the-variants.{Free}
@@ -25,12 +23,9 @@ use Rattle.model.specs.Files as Files
 use Rattle.model.specs.Files.{wordOf, kindOf, kindAt, isConstant}
 use Rattle.model.proofs.EveryWord.{every, every-word, same-word}
 use Rattle.tables.proofs.Amounts.{amount-back}
-use Rattle.tables.specs.Records.{amountFrom, levelOf, wordNumber, wordFrom, recordWith, recordOf, lineWith, lineFrom, lineOf, linesOf, linesHeld, struckWord, isStruck}
+use Rattle.tables.specs.Records.{amountFrom, wordNumber, wordFrom, recordWith, recordOf, lineWith, lineFrom, lineOf, linesOf, linesHeld, struckWord, isStruck}
 
 -- ---- the record of a line
-pub level-fits : (x : Line) (a s e : ℕ) → levelOf x ≤ 65535 → x ≡ Lines.Enc a s e → Fits w16 e
-level-fits x a s e few is = record { fits = omega (arith, ap levelOf is) }
-
 -- the record of a word and its three numbers
 pub record-line : (w : Word) (n a b c : ℕ) → n ≡ wordNumber w → lineOf (n ∷ a ∷ b ∷ c ∷ []) ≡ lineWith w a b c
 unfolding lineOf lineFrom
@@ -51,7 +46,7 @@ module _ (x : Line) (r : List ℕ) where
     pub rotation-held : lineOf r ≡ lineWith Rot a n 0 → lineOf r ≡ x
     rotation-held is = is ∙ ap (Lines.Rot a) amount ∙ sym e
 
-pub ruleset record-laws = (needs, level-fits, record-line, recorded, held-by, rotation-recorded, rotation-held)
+pub ruleset record-laws = (needs, record-line, recorded, held-by, rotation-recorded, rotation-held)
 
 -- the line of record i, where the code has read its four numbers
 pub line-held :

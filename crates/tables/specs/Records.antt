@@ -24,10 +24,6 @@ amountFrom n = pos n -ℤ pos 32768
 unfoldable pub amountTo : ℤ → ℕ
 amountTo t = positive (t +ℤ pos 32768)
 
--- the level that a line names, its third number, 0 where it names none: the one number that is wider in a line than in its record
-abbrev pub levelOf : Line → ℕ
-levelOf x = nth (said x .numbers) 2
-
 -- the number of a word in a record, and the word that has a number
 abbrev pub wordNumber : Word → ℕ
 wordNumber w = cond (hasWord Schedule w) (order w + 1) 0

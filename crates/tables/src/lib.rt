@@ -10,7 +10,7 @@ ghost use Rattle.tables.specs.Operands.{firstOperand, secondOperand, wit
 ghost use Rattle.model.specs.Words.{entry};
 ghost use Rattle.model.specs.Files.{kindAt, isConstant};
 ghost use Rattle.model.specs.Answers.{sameLine};
-ghost use Rattle.tables.specs.Records.{amountFrom, levelOf, wordNumber, wordFrom, recordWith, recordOf, lineWith, lineFrom, lineOf, linesOf, linesHeld, struckWord, isStruck};
+ghost use Rattle.tables.specs.Records.{amountFrom, wordNumber, wordFrom, recordWith, recordOf, lineWith, lineFrom, lineOf, linesOf, linesHeld, struckWord, isStruck};
 
 // ---- words
 // The number of a word in a record: the words in document 01's order from 1; 0 is no word's.
@@ -110,7 +110,6 @@ pub fn record_with(word: Word, first: u16, second: u16, third: u16) -> Record
 
 // The record that holds a line.
 pub fn record_of(line: Line) -> Record
-    requires { ⌜ levelOf line ≤ 65535 ⌝ }
     ensures { λ r. ⌜ r ≡ recordOf line ⌝ }
     ensures line { λ r. ⌜ lineOf r ≡ line ⌝ }
 {
@@ -122,7 +121,7 @@ pub fn record_of(line: Line) -> Record
         Line::Add(a, b) => record_with(Word::Add, a, b, 0),
         Line::Mul(a, b) => record_with(Word::Mul, a, b, 0),
         Line::Out(a) => record_with(Word::Out, a, 0, 0),
-        Line::Enc { of, scale, level } => record_with(Word::Enc, of, scale, level as u16),
+        Line::Enc { of, scale, level } => record_with(Word::Enc, of, scale, level),
         Line::Rs(a, levels) => record_with(Word::Rs, a, levels, 0),
         Line::Ms(a, levels) => record_with(Word::Ms, a, levels, 0),
         Line::Us(a, bits) => record_with(Word::Us, a, bits, 0),
@@ -133,7 +132,6 @@ pub fn record_of(line: Line) -> Record
 // The line with this word's number and these fields.
 fn line_from(number: u16, a: u16, b: u16, c: u16) -> Line
     ensures { λ r. ⌜ r ≡ lineFrom number a b c ⌝ }
-    ensures level { λ r. ⌜ levelOf r ≤ 65535 ⌝ }
 {
     match word_from(number) {
         Word::In => Line::In,
@@ -146,7 +144,7 @@ fn line_from(number: u16, a: u16, b: u16, c: u16) -> Line
         Word::Enc => Line::Enc {
             of: a,
             scale: b,
-            level: c as u32,
+            level: c,
         },
         Word::Rs => Line::Rs(a, b),
         Word::Ms => Line::Ms(a, b),
@@ -159,7 +157,6 @@ fn line_from(number: u16, a: u16, b: u16, c: u16) -> Line
 pub fn line_at(records: &[Record], i: usize) -> Line
     requires { ⌜ i < length (now records) ⌝ }
     ensures { λ r. ⌜ r ≡ getD (linesOf (now (records .entry))) i Free ⌝ }
-    ensures level { λ r. ⌜ levelOf r ≤ 65535 ⌝ }
 {
     let record = records[i];
     line_from(record[0], record[1], record[2], record[3])
@@ -222,8 +219,6 @@ fn same_record(r: Record, s: Record) -> bool
 
 // Whether two lines are the same: their records are.
 pub fn same_line(x: Line, y: Line) -> bool
-    requires { ⌜ levelOf x ≤ 65535 ⌝ }
-    requires { ⌜ levelOf y ≤ 65535 ⌝ }
     ensures { λ b. ⌜ b ≡ sameLine x y ⌝ }
 {
     same_record(record_of(x), record_of(y))

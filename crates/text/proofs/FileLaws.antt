@@ -12,11 +12,12 @@ use Rattle.fields.specs.Pieces.{Bytes}
 use Rattle.rows.specs.Rows.{good, readHeader, readLine, read}
 use Rattle.rows.proofs.RowLaws as Rows
 use Rattle.rows.proofs.RowLaws.{Passes, RowsFormed, no-row, row, LawfulFormat, ReadsBack}
+use Rattle.model.specs.declared.Grammar.the-variants.{Circuit}
 use Rattle.model.specs.declared.Grammar.{Grammar}
 use Rattle.model.specs.declared.Header.{Header}
 use Rattle.model.specs.declared.Line.{Line}
 use Rattle.model.specs.Scales.{headerInRange}
-use Rattle.model.specs.Files.{File, wordOf, isCircuitWord, isWord, lineTests, lineFormed, linesFormed, wellFormed}
+use Rattle.model.specs.Files.{File, wordOf, isWord, lineTests, lineFormed, linesFormed, wellFormed}
 use Rattle.model.proofs.Tests.{and-first, and-second, and-both, HeaderFacts, header-facts}
 use Rattle.model.proofs.Lists.{length-snoc}
 use Rattle.model.proofs.Formed.{LineFacts, line-facts, line-passes, well-header, well-lines}
@@ -28,7 +29,7 @@ use Rattle.text.proofs.FormLaws.{header-law, header-forth, line-law, li
 -- ---- kept lines are counted line by line
 pub kept-append : (xs ys : List Line) → keptCount (xs ++ ys) ≡ keptCount xs + keptCount ys
 kept-append [] ys = omega arith
-kept-append (x ∷ xs) ys = go (isCircuitWord x) (kept-append xs ys)
+kept-append (x ∷ xs) ys = go (isWord Circuit x) (kept-append xs ys)
   where
     go : (b : Bool) → keptCount (xs ++ ys) ≡ keptCount xs + keptCount ys
         → cond b (suc (keptCount (xs ++ ys))) (keptCount (xs ++ ys)) ≡ cond b (suc (keptCount xs)) (keptCount xs) + keptCount ys
@@ -37,7 +38,7 @@ kept-append (x ∷ xs) ys = go (isCircuitWord x) (kept-append xs ys)
 
 pub kept-most : (xs : List Line) → keptCount xs ≤ length xs
 kept-most [] = omega arith
-kept-most (x ∷ xs) = go (isCircuitWord x) (kept-most xs)
+kept-most (x ∷ xs) = go (isWord Circuit x) (kept-most xs)
   where
     go : (b : Bool) → keptCount xs ≤ length xs → cond b (suc (keptCount xs)) (keptCount xs) ≤ suc (length xs)
     go true ih = omega arith
@@ -79,13 +80,13 @@ module _ (c : Context) where
       → T (not (tooMany c done (lineForm .text x)))
   room-is done x w few kept =
       subst (λ (b : Bool). T (not (b || (leb (c .keptlimit) (keptCount done) && beginsKept (lineForm .text x))))) (sym (lt-leb (c .limit) (length done) few))
-      (subst (λ (b : Bool). T (not (leb (c .keptlimit) (keptCount done) && b))) (sym (begins-kept x (any-word (c .grammar) (wordOf x) w))) (go (isCircuitWord x) refl))
+      (subst (λ (b : Bool). T (not (leb (c .keptlimit) (keptCount done) && b))) (sym (begins-kept x (any-word (c .grammar) (wordOf x) w))) (go (isWord Circuit x) refl))
     where
       no-second : (b : Bool) → T (not (b && false))
       no-second true = tt
       no-second false = tt
 
-      go : (b : Bool) → isCircuitWord x ≡ b → T (not (leb (c .keptlimit) (keptCount done) && b))
+      go : (b : Bool) → isWord Circuit x ≡ b → T (not (leb (c .keptlimit) (keptCount done) && b))
       go false e = no-second (leb (c .keptlimit) (keptCount done))
       go true e =
           let one : keptCount (x ∷ []) ≡ 1 = ap (λ (b : Bool). cond b 1 0) e in
@@ -93,9 +94,9 @@ module _ (c : Context) where
           subst (λ (b : Bool). T (not (b && true))) (sym (lt-leb (c .keptlimit) (keptCount done) (omega arith))) tt
 
   kept-next : (done : List Line) (x : Line) → T (isWord (c .grammar) x) → Room done (lineForm .text x) → keptCount done ≤ c .keptlimit → keptCount (done ++ (x ∷ [])) ≤ c .keptlimit
-  kept-next done x w room kept = go (isCircuitWord x) refl
+  kept-next done x w room kept = go (isWord Circuit x) refl
     where
-      go : (b : Bool) → isCircuitWord x ≡ b → keptCount (done ++ (x ∷ [])) ≤ c .keptlimit
+      go : (b : Bool) → isWord Circuit x ≡ b → keptCount (done ++ (x ∷ [])) ≤ c .keptlimit
       go true e =
           let one : keptCount (x ∷ []) ≡ 1 = ap (λ (b : Bool). cond b 1 0) e in
           let more = room .kept (subst T (sym (begins-kept x (any-word (c .grammar) (wordOf x) w) ∙ e)) tt) in

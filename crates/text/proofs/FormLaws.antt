@@ -2,8 +2,9 @@
 use Prim.Native.Nat.{ℕ, _≤_}
 use native.Mathlib.Omega.{arith}
 use mathlib.Core.Path.{_≡_, refl, ap, _∙_}
+use mathlib.Core.Bool.{Bool, false}
 use mathlib.Core.List.{List, []}
-use mathlib.Core.Option.{some}
+use mathlib.Core.Option.{Option, none, some}
 use lib.Dec.{T}
 use lib.IntN.{ℤ}
 use lib.ListN.{length, getD}
@@ -13,16 +14,17 @@ use Rattle.rows.specs.Forms.{titled, named, worded}
 use Rattle.rows.proofs.FieldLaws.{Held, number, Fields, no-field, field, AtMost, Bounded, allSmall, all-bounded, all-short}
 use Rattle.rows.proofs.FormLaws.{LawfulForm, said-fields, titled-back, titled-law, titled-forth, worded-back, worded-law, worded-forth, made-law, made-forth}
 use Rattle.model.specs.declared.Grammar.{Grammar}
-use Rattle.model.specs.declared.Grammar.the-variants.{Schedule}
+use Rattle.model.specs.declared.Grammar.the-variants.{Circuit, Schedule}
+use Rattle.model.specs.declared.Word.{Word}
 use Rattle.model.specs.declared.Header.{Header}
 use Rattle.model.specs.declared.Line.{Line}
 use Rattle.model.specs.Scales.{headerFields, headerNumbers, headerInRange}
 use Rattle.model.specs.Words.{entry, words, hasWord, operandsAmong}
-use Rattle.model.specs.Files.{said, lineOf, wordOf, rowOf, isCircuitWord, operands, inRange, isUsable, kindAt, everyUsable}
+use Rattle.model.specs.Files.{said, lineOf, wordOf, rowOf, isWord, operands, inRange, isUsable, kindAt, everyUsable}
 use Rattle.model.proofs.Tests.{and-first, and-second, HeaderFacts}
 use Rattle.model.proofs.EveryWord.{every-word, line-said}
 use Rattle.model.proofs.Formed.{usable-below}
-use Rattle.text.specs.Files.{headerWord, headerOf, headerForm, vocabulary, lineForm, isKeptWord, beginsKept}
+use Rattle.text.specs.Files.{headerWord, headerOf, headerForm, vocabulary, lineForm, beginsKept}
 use Rattle.text.proofs.WordLaws.{word-letters, header-letters, named-word, said-held, said-line}
 
 -- ---- the header line
@@ -75,7 +77,10 @@ module _ (h : Header) (facts : HeaderFacts h) (before : List Line) (x : Line) (r
       (worded-forth vocabulary word-letters (said x) (named-word (wordOf x) word) (said-held x) (all-short 60 1792 small (line-bounded 1792 few)))
 
 -- ---- the first field of a line's text
-pub begins-kept : (x : Line) → T (hasWord Schedule (wordOf x)) → beginsKept (lineForm .text x) ≡ isCircuitWord x
+abbrev pub isKeptWord : Option Word → Bool
+isKeptWord o = elim o [ none ↦ false | some w ↦ hasWord Circuit w ]
+
+pub begins-kept : (x : Line) → T (hasWord Schedule (wordOf x)) → beginsKept (lineForm .text x) ≡ isWord Circuit x
 begins-kept x w =
     ap (λ (fields : List Bytes). isKeptWord (named vocabulary words (getD fields 0 []))) (said-fields (rowOf x .bytes) (word-letters (wordOf x)) (said x .numbers))
     ∙ ap isKeptWord (named-word (wordOf x) w)

@@ -2,7 +2,7 @@
 use Prim.Native.Nat.{ℕ, suc}
 use mathlib.Core.Bool.{Bool, true, false, cond, _&&_, _||_}
 use mathlib.Core.List.{List, [], _∷_}
-use mathlib.Core.Option.{Option, none, some}
+use mathlib.Core.Option.{none, some}
 use lib.Dec.{leb}
 use lib.IntN.{ℤ}
 use lib.ListN.{length, getD}
@@ -17,7 +17,7 @@ use Rattle.model.specs.declared.Line.{Line}
 use Rattle.model.specs.declared.Word.{Word}
 use Rattle.model.specs.Scales.{headerFields, headerNumbers, headerInRange}
 use Rattle.model.specs.Words.{ascii, entry, words, hasWord}
-use Rattle.model.specs.Files.{File, limit, nth, said, lineOf, isCircuitWord, lineTests}
+use Rattle.model.specs.Files.{File, limit, nth, said, lineOf, isWord, lineTests}
 use Rattle.text.specs.declared.Context.{Context}
 
 -- ---- the header line: "Circuit: header `circuit F W L`", "Schedule: header `schedule F W L`"
@@ -42,15 +42,11 @@ lineForm = made (λ s. lineOf (s .word) (s .numbers)) said (worded vocabulary)
 -- how many lines have a circuit's word
 abbrev pub keptCount : List Line → ℕ
 keptCount [] = 0
-keptCount (x ∷ xs) = cond (isCircuitWord x) (suc (keptCount xs)) (keptCount xs)
+keptCount (x ∷ xs) = cond (isWord Circuit x) (suc (keptCount xs)) (keptCount xs)
 
 -- "whose first field is a circuit word": up to the first tab, or all of the line
-abbrev pub isKeptWord : Option Word → Bool
-isKeptWord none = false
-isKeptWord (some w) = hasWord Circuit w
-
 abbrev pub beginsKept : Bytes → Bool
-beginsKept p = isKeptWord (named vocabulary words (getD (split tab p) 0 []))
+beginsKept p = elim (named vocabulary words (getD (split tab p) 0 [])) [ none ↦ false | some w ↦ hasWord Circuit w ]
 
 -- "3 more lines than allowed (erase: also the 257th line whose first field is a circuit word, a kept line)"
 abbrev pub tooMany : Context → List Line → Bytes → Bool

@@ -2,13 +2,13 @@
 use Prim.Native.Nat.{ℕ, zero, suc, _+_, _-_, _≤_, _<_}
 use native.Mathlib.Omega.{arith}
 use mathlib.Core.Path.{_≡_, refl, sym, ap, ap₂, subst, _∙_}
-use mathlib.Core.List.{List, [], _∷_}
+use mathlib.Core.List.{[], _∷_}
 use mathlib.Core.Bool.{Bool, true, false, cond, not, _&&_, _||_}
 use mathlib.Core.Option.{Option, none, some}
 use borrow.Author.Needs.{needs}
-use borrow.Author.Tests.{not-true, not-false, lt-ltb, le-ltb, ne-eqb, eqb-true}
-use lib.Dec.{T, eqb, leb, ltb, leb→le}
-use lib.ListN.{length, getD, take, drop, length-drop}
+use borrow.Author.Tests.{not-true, not-false, lt-ltb, le-ltb, ne-eqb}
+use lib.Dec.{T, eqb, leb, leb→le}
+use lib.ListN.{length, getD, drop, length-drop}
 use lib.Seq.{getD-drop}
 use Rattle.fields.specs.Pieces.{Bytes, sameBytes}
 use Rattle.fields.proofs.PieceLaws.{bytes-same, same-bytes}
@@ -18,18 +18,21 @@ use Rattle.rows.proofs.FormLaws.{named-is}
 use Rattle.model.specs.declared.Grammar.{Grammar}
 use Rattle.model.specs.declared.Grammar.the-variants.{Circuit, Schedule}
 use Rattle.model.specs.declared.Word.{Word}
-use Rattle.model.specs.declared.Word.the-variants.{In, Const, Neg, Rot, Add, Mul, Out, Enc, Rs, Ms, Us, NoWord}
+use Rattle.model.specs.declared.Word.the-variants.{In, Const, Neg, Rot, Add, Mul, Out, Enc, Us, NoWord}
 use Rattle.model.specs.Words.{entry, words, hasWord}
-use Rattle.model.specs.Numbering.{order, sameWord}
-use Rattle.model.proofs.Tests.{and-first, and-second, and-both}
-use Rattle.model.proofs.EveryWord.{every, every-word, same-word}
+use Rattle.model.specs.Numbering.{sameWord}
+use Rattle.model.proofs.Tests.{and-first, and-second}
+use Rattle.model.proofs.EveryWord.{every-word, same-word}
 use Rattle.text.specs.Files.{vocabulary}
-use Rattle.text.proofs.WordLaws.{word-of, named-word}
-use Rattle.forms.specs.Along.{fieldIn, endsField}
+use Rattle.text.proofs.WordLaws.{word-of}
+use Rattle.forms.specs.Along.{fieldIn, endsField, isPlain}
 use Rattle.forms.proofs.WordLaws.{field-short}
 use Rattle.tables.specs.Records.{wordNumber}
 use Rattle.tables.proofs.Words.{every-same}
-use Rattle.words.specs.Words.{orNoWord, wordIn, firstByte, candidateBy, candidateOf, isNamed}
+use Rattle.words.specs.declared.OperandsAsked.{OperandsAsked}
+use Rattle.words.specs.declared.OperandsAsked.the-variants.{NoOperand}
+use Rattle.words.specs.declared.WordAt.{WordAt}
+use Rattle.words.specs.Words.{orNoWord, wordIn, firstByte, candidateBy, candidateOf, spelled, operandsAsked, rowOf, IsRow, foundAt}
 
 -- ---- the only word that can stand at a place, by the first two bytes there
 module _ (s : Bytes) (at : ℕ) where
@@ -66,12 +69,42 @@ module _ (s : Bytes) (at : ℕ) where
 
 pub ruleset candidate-laws = (needs, no-bytes, by-first, by-second, no-first)
 
--- ---- whether a word is the first field
-pub is-text : (v w : Word) (t : Bytes) (r : Bool) → v ≡ w → r ≡ (hasWord Schedule w && sameBytes (fieldIn t) (entry w .bytes)) → r ≡ isNamed v t
-unfolding isNamed
-is-text v w t r e q = q ∙ rw e
+-- ---- the row of a word, if its bytes are the first field
+pub none-found : (at : ℕ) → record { word = NoWord; row = record { fields = 0; asks = NoOperand }; end = at } ≡ foundAt at NoWord
+none-found at = ap (λ (n : ℕ). record { word = NoWord; row = rowOf NoWord; end = n }) here
+  where
+    here : at ≡ at + 0
+    here = omega arith
 
-pub ruleset text-laws = (needs, is-text)
+module _ (w : Word) (bytes : Bytes) (fields : ℕ) (asks : OperandsAsked) (is : IsRow w bytes fields asks) where
+  pub row-plain : T (isPlain bytes)
+  row-plain = rw (is .spelling) (every-word (λ v. isPlain (entry v .bytes)) tt w)
+
+  module _ (s : Bytes) (at : ℕ) (r : Bool) (q : r ≡ sameBytes (fieldIn (drop at s)) bytes) where
+    pub not-spelled : r ≡ false → (f : WordAt) → f ≡ foundAt at NoWord → f ≡ foundAt at (spelled w (drop at s))
+    unfolding spelled
+    not-spelled h f e = rw (← is .spelling, ← q, h) e
+
+    pub row-found : r ≡ true → record { word = w; row = record { fields = fields; asks = asks }; end = at + length bytes } ≡ foundAt at (spelled w (drop at s))
+    unfolding spelled
+    row-found h = rw (← is .spelling, ← q, h) (λ i. record { word = w; row = is .row i; end = at + length (is .spelling i) })
+
+pub ruleset row-laws = (needs, not-false, not-true, none-found, row-plain, not-spelled, row-found)
+
+-- a word's row, as the table of the code has it
+module _ (w v : Word) (bytes : Bytes) (fields : ℕ) (asks : OperandsAsked) (e : w ≡ v) where
+  pub table-row : bytes ≡ entry v .bytes → fields ≡ length (entry v .fields) → asks ≡ operandsAsked (entry v .asks) → IsRow w bytes fields asks
+  table-row b f a = record { spelling = b ∙ ap (λ (u : Word). entry u .bytes) (sym e); row = (λ i. record { fields = f i; asks = a i }) ∙ ap rowOf (sym e) }
+
+pub no-row : (w : Word) (at : ℕ) (t : Bytes) (f : WordAt) → w ≡ NoWord → f ≡ foundAt at NoWord → f ≡ foundAt at (spelled w t)
+unfolding spelled
+no-row w at t f e p = p ∙ ap (foundAt at) (sym (ap (λ (v : Word). spelled v t) e ∙ go (sameBytes (fieldIn t) [])))
+  where
+    go : (b : Bool) → cond b NoWord NoWord ≡ NoWord
+    go true = refl
+    go false = refl
+
+pub ruleset table-laws = (needs, table-row, no-row)
 
 -- a field's bytes are the first of the text
 field-first : (t : Bytes) (i : ℕ) → i < length (fieldIn t) → getD (fieldIn t) i 0 ≡ getD t i 0
@@ -111,36 +144,42 @@ named-any f w e = go (hasWord Schedule w) (every-word (λ v. hasWord Schedule v 
         let none-named : f ≡ [] = sym (named-is vocabulary words f e) ∙ ap (λ (v : Word). entry v .bytes) (same-word w NoWord t) in
         none-some (ap (named vocabulary words) (sym none-named) ∙ e)
 
-named-so : (w : Word) (t : Bytes) {v : Word} → T (hasWord Schedule v) → fieldIn t ≡ entry v .bytes → w ≡ v → T (isNamed w t)
-unfolding isNamed
-named-so w t {v} any text e = rw (e, text) (and-both (hasWord Schedule v) (sameBytes (entry v .bytes) (entry v .bytes)) any (bytes-same (entry v .bytes)))
+-- the bytes of a word name it, and none name no word
+named-itself : (w : Word) → orNoWord (named vocabulary words (entry w .bytes)) ≡ w
+unfolding named sameBytes
+named-itself w =
+    same-word (orNoWord (named vocabulary words (entry w .bytes))) w
+    (every-word (λ v. sameWord (orNoWord (named vocabulary words (entry v .bytes))) v) tt w)
 
-module _ (w : Word) (t : Bytes) (r : Bool) (q : r ≡ isNamed w t) where
-  pub is-word : r ≡ true → w ≡ wordIn t
-  unfolding isNamed wordIn
-  is-word h =
-      let both : T (hasWord Schedule w && sameBytes (fieldIn t) (entry w .bytes)) = rw (← q, h) tt in
-      let text = same-bytes (fieldIn t) (entry w .bytes) (and-second (hasWord Schedule w) _ both) in
-      sym (ap (λ (f : Bytes). orNoWord (named vocabulary words f)) text ∙ ap orNoWord (named-word w (and-first (hasWord Schedule w) _ both)))
+-- a text's first field is its candidate or none of the words
+candidate-word : (t : Bytes) → spelled (candidateOf t) t ≡ wordIn t
+unfolding spelled wordIn
+candidate-word t = go (sameBytes (fieldIn t) (entry (candidateOf t) .bytes)) refl
+  where
+    other : (o : Option Word) → named vocabulary words (fieldIn t) ≡ o → sameBytes (fieldIn t) (entry (candidateOf t) .bytes) ≡ false → NoWord ≡ orNoWord o
+    other none e h = refl
+    other (some v) e h =
+        let text = sym (named-is vocabulary words (fieldIn t) e) in
+        let is = candidate-text t v (named-any (fieldIn t) v e) text in
+        let same : sameBytes (entry v .bytes) (entry v .bytes) ≡ false = sym (ap₂ (λ (f : Bytes) (w : Word). sameBytes f (entry w .bytes)) text is) ∙ h in
+        absurd (subst T same (bytes-same (entry v .bytes)))
 
-  pub word-within : r ≡ true → length (entry w .bytes) ≤ length t
-  unfolding isNamed
-  word-within h =
-      let both : T (hasWord Schedule w && sameBytes (fieldIn t) (entry w .bytes)) = rw (← q, h) tt in
-      let text = same-bytes (fieldIn t) (entry w .bytes) (and-second (hasWord Schedule w) _ both) in
-      omega (arith, field-short t, ap length text)
+    go : (b : Bool) → sameBytes (fieldIn t) (entry (candidateOf t) .bytes) ≡ b → cond b (candidateOf t) NoWord ≡ orNoWord (named vocabulary words (fieldIn t))
+    go true h =
+        let text = same-bytes (fieldIn t) (entry (candidateOf t) .bytes) (subst T (sym h) tt) in
+        sym (ap (λ (f : Bytes). orNoWord (named vocabulary words f)) text ∙ named-itself (candidateOf t))
+    go false h = other (named vocabulary words (fieldIn t)) refl h
 
-  -- the field of any other word has that word for its candidate
-  pub no-word : w ≡ candidateOf t → r ≡ false → NoWord ≡ wordIn t
-  unfolding wordIn
-  no-word c h = go (named vocabulary words (fieldIn t)) refl
-    where
-      go : (o : Option Word) → named vocabulary words (fieldIn t) ≡ o → NoWord ≡ orNoWord o
-      go none e = refl
-      go (some v) e =
-          let any = named-any (fieldIn t) v e in
-          let text = sym (named-is vocabulary words (fieldIn t) e) in
-          absurd (subst T (sym q ∙ h) (named-so w t any text (c ∙ candidate-text t v any text)))
+module _ (t : Bytes) (at : ℕ) (w : Word) (c : w ≡ candidateOf t) (f : WordAt) (e : f ≡ foundAt at (spelled w t)) where
+  pub found-word : f .word ≡ wordIn t
+  found-word = ap (λ (g : WordAt). g .word) e ∙ ap (λ (v : Word). spelled v t) c ∙ candidate-word t
+
+module _ (at : ℕ) (w : Word) (f : WordAt) (e : f ≡ foundAt at w) where
+  pub found-row : f .row ≡ rowOf (f .word)
+  found-row = ap (λ (g : WordAt). g .row) e ∙ ap (λ (g : WordAt). rowOf (g .word)) (sym e)
+
+  pub found-end : f .end ≡ at + length (entry (f .word) .bytes)
+  found-end = ap (λ (g : WordAt). g .end) e ∙ ap (λ (g : WordAt). at + length (entry (g .word) .bytes)) (sym e)
 
 -- ---- a word of a file that was found is named by the first field
 pub word-named : (g : Grammar) (t : Bytes) (w : Word) → w ≡ wordIn t → T (hasWord g w) → named vocabulary words (fieldIn t) ≡ some w
@@ -175,7 +214,7 @@ module _ (w : Word) (n : ℕ) (q : n ≡ wordNumber w) where
   pub schedule-some : (g : Grammar) → g ≡ Schedule → not (eqb n 0) ≡ hasWord g w
   schedule-some g e = rw (e, q) (every-same (λ v. not (eqb (wordNumber v) 0)) (hasWord Schedule) tt w)
 
-pub circuit-kept : (g : Grammar) (w : Word) (r : Bool) → g ≡ Circuit → r ≡ hasWord Circuit w → r ≡ hasWord g w
-circuit-kept g w r e q = rw e q
+pub circuit-kept : (g : Grammar) (w : Word) (r k : Bool) → g ≡ Circuit → k ≡ hasWord Circuit w → r ≡ k → r ≡ hasWord g w
+circuit-kept g w r k e q is = rw e (is ∙ q)
 
-pub ruleset word-laws = (needs, is-word, no-word, amount-by, kept-none, kept-few, schedule-some, circuit-kept)
+pub ruleset word-laws = (needs, found-word, found-row, found-end, amount-by, kept-none, kept-few, schedule-some, circuit-kept)

@@ -5,14 +5,29 @@ ghost use mathlib.Core.Path.{_≡_};
 ghost use Prim.Native.Nat.{_+_, _≤_};
 ghost use lib.ListN.{length, drop};
 ghost use Rattle.model.specs.declared.Grammar.the-variants.{Circuit};
-ghost use Rattle.model.specs.declared.Word.the-variants.{Rot};
+ghost use Rattle.model.specs.declared.Word.the-variants.{Rot, NoWord};
 ghost use Rattle.model.specs.Words.{entry, hasWord};
 ghost use Rattle.model.specs.Numbering.{sameWord};
-ghost use Rattle.words.specs.Words.{wordIn, candidateOf, isNamed};
+ghost use Rattle.words.specs.Words.{rowOf, IsRow, foundAt, wordIn, candidateOf, spelled};
 
-// A line's first field: which word it is, and the place past it.
+// What a word asks of its operands, which are its first fields.
+pub enum OperandsAsked {
+    NoOperand,
+    Ciphertext,
+    Constant,
+    Pair,
+}
+
+// What a word's row says of the fields after it: how many there are, and what is asked of the operands among them.
+pub struct WordRow {
+    pub fields: usize,
+    pub asks: OperandsAsked,
+}
+
+// A line's first field: which word it is, its row, and the place past it.
 pub struct WordAt {
     pub word: Word,
+    pub row: WordRow,
     pub end: usize,
 }
 
@@ -39,44 +54,61 @@ fn candidate(text: &[u8], at: usize) -> Word
     }
 }
 
-// Whether this word is the line's first field.
-fn is_named(word: Word, text: &[u8], at: usize) -> bool
-    requires { ⌜ at ≤ length (now text) ⌝ }
-    ensures { λ r. ⌜ r ≡ isNamed word (drop at (now (text .entry))) ⌝ }
+// A line whose first field is none of the words.
+fn no_word(at: usize) -> WordAt
+    ensures { λ r. ⌜ r ≡ foundAt at NoWord ⌝ }
 {
-    match word {
-        Word::In => forms::is_word_at(text, at, b"in"),
-        Word::Const => forms::is_word_at(text, at, b"const"),
-        Word::Neg => forms::is_word_at(text, at, b"neg"),
-        Word::Rot => forms::is_word_at(text, at, b"rot"),
-        Word::Add => forms::is_word_at(text, at, b"add"),
-        Word::Mul => forms::is_word_at(text, at, b"mul"),
-        Word::Out => forms::is_word_at(text, at, b"out"),
-        Word::Enc => forms::is_word_at(text, at, b"enc"),
-        Word::Rs => forms::is_word_at(text, at, b"rs"),
-        Word::Ms => forms::is_word_at(text, at, b"ms"),
-        Word::Us => forms::is_word_at(text, at, b"us"),
-        Word::NoWord => false,
+    WordAt {
+        word: Word::NoWord,
+        row: WordRow {
+            fields: 0,
+            asks: OperandsAsked::NoOperand,
+        },
+        end: at,
     }
 }
 
-// How many bytes a word has.
-fn length_of(word: Word) -> usize
-    ensures { λ r. ⌜ r ≡ length (entry word .bytes) ⌝ }
+// The row of a word with these bytes, if they are the line's first field.
+fn row(
+    text: &[u8],
+    at: usize,
+    word: Word,
+    bytes: &[u8],
+    fields: usize,
+    asks: OperandsAsked,
+) -> WordAt
+    requires { ⌜ at ≤ length (now text) ⌝ }
+    requires { ⌜ IsRow word (now bytes) fields asks ⌝ }
+    ensures { λ r. ⌜ r ≡ foundAt at (spelled word (drop at (now (text .entry)))) ⌝ }
+{
+    if !forms::is_word_at(text, at, bytes) {
+        return no_word(at);
+    }
+    WordAt {
+        word,
+        row: WordRow { fields, asks },
+        end: at + bytes.len(),
+    }
+}
+
+// The rows of the words: of each its bytes, how many fields follow it, and what it asks of its operands.
+fn row_at(word: Word, text: &[u8], at: usize) -> WordAt
+    requires { ⌜ at ≤ length (now text) ⌝ }
+    ensures { λ r. ⌜ r ≡ foundAt at (spelled word (drop at (now (text .entry)))) ⌝ }
 {
     match word {
-        Word::In => 2,
-        Word::Const => 5,
-        Word::Neg => 3,
-        Word::Rot => 3,
-        Word::Add => 3,
-        Word::Mul => 3,
-        Word::Out => 3,
-        Word::Enc => 3,
-        Word::Rs => 2,
-        Word::Ms => 2,
-        Word::Us => 2,
-        Word::NoWord => 0,
+        Word::In => row(text, at, word, b"in", 0, OperandsAsked::NoOperand),
+        Word::Const => row(text, at, word, b"const", 1, OperandsAsked::NoOperand),
+        Word::Neg => row(text, at, word, b"neg", 1, OperandsAsked::Ciphertext),
+        Word::Rot => row(text, at, word, b"rot", 2, OperandsAsked::Ciphertext),
+        Word::Add => row(text, at, word, b"add", 2, OperandsAsked::Pair),
+        Word::Mul => row(text, at, word, b"mul", 2, OperandsAsked::Pair),
+        Word::Out => row(text, at, word, b"out", 1, OperandsAsked::Ciphertext),
+        Word::Enc => row(text, at, word, b"enc", 3, OperandsAsked::Constant),
+        Word::Rs => row(text, at, word, b"rs", 2, OperandsAsked::Ciphertext),
+        Word::Ms => row(text, at, word, b"ms", 2, OperandsAsked::Ciphertext),
+        Word::Us => row(text, at, word, b"us", 2, OperandsAsked::Ciphertext),
+        Word::NoWord => no_word(at),
     }
 }
 
@@ -84,39 +116,10 @@ fn length_of(word: Word) -> usize
 pub fn word_at(text: &[u8], at: usize) -> WordAt
     requires { ⌜ at ≤ length (now text) ⌝ }
     ensures { λ r. ⌜ r .word ≡ wordIn (drop at (now (text .entry))) ⌝ }
-    ensures { λ r. ⌜ r .end ≡ at + length (entry (r .word) .bytes) ⌝ }
+    ensures row { λ r. ⌜ r .row ≡ rowOf (r .word) ⌝ }
+    ensures end { λ r. ⌜ r .end ≡ at + length (entry (r .word) .bytes) ⌝ }
 {
-    let word = candidate(text, at);
-    if is_named(word, text, at) {
-        return WordAt {
-            word,
-            end: at + length_of(word),
-        };
-    }
-    WordAt {
-        word: Word::NoWord,
-        end: at,
-    }
-}
-
-// How many fields follow the word.
-pub fn fields_of(word: Word) -> usize
-    ensures { λ r. ⌜ r ≡ length (entry word .fields) ⌝ }
-{
-    match word {
-        Word::In => 0,
-        Word::Const => 1,
-        Word::Neg => 1,
-        Word::Rot => 2,
-        Word::Add => 2,
-        Word::Mul => 2,
-        Word::Out => 1,
-        Word::Enc => 3,
-        Word::Rs => 2,
-        Word::Ms => 2,
-        Word::Us => 2,
-        Word::NoWord => 0,
-    }
+    row_at(candidate(text, at), text, at)
 }
 
 // Whether the word's second field is a rotation's amount.

@@ -1,5 +1,6 @@
 -- `checker::erase` meets its contract: one law for each return, its premises the tests on the way and what the callees ensure. Assumes nothing.
-use Rattle.checker.proofs.Laws.{steps}
+use Rattle.services.proofs.Steps.{replied-as}
+use Rattle.checker.proofs.Laws.{step-needs, step-returns}
 use Rattle.checker.proofs.erase.Statement.{statement}
 use Rattle.checker.proofs.erase.Tie as tie
 
@@ -7,16 +8,16 @@ pub erase-spec : {M : Type 1} → statement M
 erase-spec =
     tie.close
     (tie.spec
-    (λ c. search steps)
-    (λ c κs. search steps)
-    (λ c. search steps)
-    (λ c κs. search steps)
-    (λ c. search steps)
-    (λ c. search steps)
-    (λ c. search steps)
-    (λ c κs. search steps)
-    (λ c. search steps)
-    (λ c κs. search steps)
-    (λ c. search steps)
-    (λ c. search steps)
-    (λ c. search steps))
+    (λ c. search step-needs)
+    (λ c κs. search step-needs)
+    (λ c. search step-needs)
+    (λ c κs. search step-needs)
+    (λ c. search step-needs)
+    (λ c. search step-needs)
+    (λ c. search step-needs)
+    (λ c κs. (search step-needs, search step-needs))
+    (λ c. search step-needs)
+    (λ c κs. search step-needs)
+    (λ c. search step-returns)
+    (λ c. search step-needs)
+    (λ c. replied-as (search step-returns) (c .before .before .lend .ensures)))

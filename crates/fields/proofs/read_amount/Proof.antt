@@ -1,5 +1,5 @@
 -- `fields::read_amount` meets its contract: one law for each return, its premises the tests on the way. Assumes nothing.
-use Rattle.fields.proofs.FieldLaws.{amount-laws}
+use Rattle.fields.proofs.FieldLaws.{amount-laws, minus-laws}
 use Rattle.fields.proofs.read_amount.Statement.{statement}
 use Rattle.fields.proofs.read_amount.Tie as tie
 
@@ -17,7 +17,7 @@ read-amount-spec =
     (λ c. search amount-laws)
     (λ c. search amount-laws)
     (λ c. search amount-laws)
-    (λ c. search amount-laws)
+    (λ c. search minus-laws)
     (λ c. search amount-laws)
     (λ c. search amount-laws)
     (λ c. search amount-laws)

@@ -1,29 +1,35 @@
--- `forms::numbers_at` meets its contract: one law for each return, its premises the fields read on the way. Assumes nothing.
-use Rattle.forms.proofs.StepLaws.{numbers-laws}
+-- `forms::numbers_at` meets its contract. The loop's invariant is `Reading`; the measure is how many fields are left. Assumes nothing.
+use Prim.Native.Nat.{_-_}
+use Rattle.forms.proofs.StepLaws.{Reading, loop-laws}
 use Rattle.forms.proofs.numbers_at.Statement.{statement}
 use Rattle.forms.proofs.numbers_at.Tie as tie
+
+abbrev Inv-loop : tie.InvT-loop
+Inv-loop place text start count signed numbers₀ at₀ i₀ numbers at i = Reading signed count text start numbers at i
+
+abbrev μ-loop : tie.MeasureT-loop
+μ-loop place text start count signed numbers₀ at₀ i₀ numbers at i = count - i
 
 pub numbers-at-spec : {M : Type 1} → statement M
 numbers-at-spec =
     tie.close
     (tie.spec
-    (λ c κs. search numbers-laws)
-    (λ c. search numbers-laws)
-    (λ c κs. search numbers-laws)
-    (λ c. search numbers-laws)
-    (λ c. search numbers-laws)
-    (λ c. search numbers-laws)
-    (λ c κs. search numbers-laws)
-    (λ c. search numbers-laws)
-    (λ c κs. search numbers-laws)
-    (λ c. search numbers-laws)
-    (λ c. search numbers-laws)
-    (λ c. search numbers-laws)
-    (λ c κs. search numbers-laws)
-    (λ c. search numbers-laws)
-    (λ c κs. search numbers-laws)
-    (λ c. search numbers-laws)
-    (λ c. search numbers-laws)
-    (λ c. search numbers-laws)
-    (λ c κs. search numbers-laws)
-    (λ c. search numbers-laws))
+    Inv-loop
+    μ-loop
+    (λ c. search loop-laws)
+    (λ c κs. search loop-laws)
+    (λ c κs. search loop-laws)
+    (λ c. search loop-laws)
+    (λ c. search loop-laws)
+    (λ c. search loop-laws)
+    (λ c. search loop-laws)
+    (λ c. search loop-laws)
+    (λ c. search loop-laws)
+    (λ c. search loop-laws)
+    (λ c. search loop-laws)
+    (λ c κs. search loop-laws)
+    (λ c. search loop-laws)
+    (λ c. search loop-laws)
+    (λ c. search loop-laws)
+    (λ c. search loop-laws)
+    (λ c. search loop-laws))

@@ -1,6 +1,7 @@
 -- `lines::read_line` meets its contract: one law for each return. Assumes nothing.
-use borrow.Author.Needs.{needs}
-use Rattle.lines.proofs.ReadLaws.{past-within, numbers-read, line-laws}
+use Prim.Native.Nat.{_+_, _≤_}
+use lib.ListN.{length}
+use Rattle.lines.proofs.ReadLaws.{past-within, line-laws}
 use Rattle.lines.proofs.read_line.Statement.{statement}
 use Rattle.lines.proofs.read_line.Tie as tie
 
@@ -14,33 +15,15 @@ read-line-spec =
     (λ c. search line-laws)
     (λ c κs. search line-laws)
     (λ c κs. search line-laws)
-    (λ c κs. search line-laws)
     (λ c. search line-laws)
     (λ c. search line-laws)
-    (λ c. let a = c .before .before .before .before .before .before .before .before .before .args in
+    (λ c. let start = c .before .before .before .before .before .before .before .before .before in
+    let a = start .args in
     let g = c .before .first .given in
-    let inside =
-    past-within (a .word) (a .count) (a .start) (a .text .now) (c .before .before .before .before .before .fields-of .result)
-    (c .before .before .before .before .before .fields-of .ensures) (c .before .before .before .before .takes-amount .result)
-    (c .before .before .before .before .takes-amount .ensures)
-    (c .before .before .before .numbers-at .result) (c .before .before .before .numbers-at .ensures) (g .0 .0) (g .0 .1 .0) (g .0 .1 .1 .0) (g .0 .1 .1 .1 .0) (g .1) in
+    let inside : g .0 .1 .1 .1 .0 + 1 ≤ length (a .text .now) = search past-within in
     search line-laws)
-    (λ c κs. let a = c .before .before .before .before .before .before .before .before .before .args in
-    let g = c .before .first .given in (
-      search needs,
-      (
-        search needs,
-        (
-          search needs,
-          (
-            search line-laws,
-            numbers-read (a .word) (a .count) (a .start) (a .text .now) (c .before .before .before .before .before .fields-of .result)
-                (c .before .before .before .before .before .fields-of .ensures) (c .before .before .before .before .takes-amount .result)
-                (c .before .before .before .before .takes-amount .ensures)
-                (c .before .before .before .numbers-at .result) (c .before .before .before .numbers-at .ensures) (g .0 .0) (g .0 .1 .0) (g .0 .1 .1 .0) (g .0 .1 .1 .1 .0) (g .1),
-          ),
-        ),
-      ),
-    ))
+    (λ c κs. search line-laws)
+    (λ c κs. let start = c .before .before .before .before .before .before .before .before .before .before in
+    (search line-laws, (search line-laws, (search line-laws, (search line-laws, (search line-laws, search line-laws))))))
     (λ c. search line-laws)
     (λ c. search line-laws))

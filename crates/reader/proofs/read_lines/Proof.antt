@@ -25,7 +25,7 @@ read-lines-spec =
     (λ c. search filling-laws)
     (λ c. search filling-laws)
     (λ c. search filling-laws)
-    (λ c κs. search filling-laws)
+    (λ c κs. (search filling-laws, (search filling-laws, (search filling-laws, search filling-laws))))
     (λ c. search filling-laws)
     (λ c. search filling-laws)
     (λ c. (search filling-laws, search filling-laws))

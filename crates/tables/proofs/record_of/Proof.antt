@@ -23,7 +23,6 @@ record-of-spec =
     (λ c. search record-laws)
     (λ c κs. search record-laws)
     (λ c. search record-laws)
-    (λ c. search record-laws)
     (λ c κs. search record-laws)
     (λ c. search record-laws)
     (λ c κs. search record-laws)

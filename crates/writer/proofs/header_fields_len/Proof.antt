@@ -1,7 +1,7 @@
 -- `writer::header_fields_len` meets its contract: each grammar by its arm. Assumes nothing.
 use borrow.Author.Needs.{needs}
 use Rattle.spelling.proofs.Lengths.{lengths}
-use Rattle.writer.proofs.LineFields.{header-fields}
+use Rattle.writer.proofs.HeaderFields.{header-fields}
 use Rattle.writer.proofs.header_fields_len.Statement.{statement}
 use Rattle.writer.proofs.header_fields_len.Tie as tie
 

@@ -26,7 +26,7 @@ put-file-spec =
     (λ c.
     let put = c .before .before in
     let read = put .before .before in
-    writing-more _ _ _ _ _ _ _ (read .before .before .loop .inv) (read .before .loop-test .taken) _ (read .line-at .ensures .0) _ _
+    writing-more _ _ _ _ _ _ _ (read .before .before .loop .inv) (read .before .loop-test .taken) _ (read .line-at .ensures) _ _
     (put .put-line .ensures)
     (put .put-line .kept .0))
     (λ c. search (needs, writings))

@@ -1,7 +1,7 @@
 -- `writer::put_header_fields` meets its contract: each grammar by its arm. Assumes nothing.
 use borrow.Author.Needs.{needs}
 use Rattle.spelling.proofs.Puts.{puts}
-use Rattle.writer.proofs.LineFields.{header-fields}
+use Rattle.writer.proofs.HeaderFields.{header-fields}
 use Rattle.writer.proofs.put_header_fields.Statement.{statement}
 use Rattle.writer.proofs.put_header_fields.Tie as tie
 

@@ -19,7 +19,7 @@ read-header-spec =
     past-within (a .grammar) (a .text .now) (c .before .before .before .before .before .before .is-header .result)
     (c .before .before .before .before .before .before .is-header .ensures) (search header-laws) (c .before .before .before .before .header-end .result)
     (c .before .before .before .before .header-end .ensures)
-    (c .before .before .before .three-numbers-at .result) (c .before .before .before .three-numbers-at .ensures) (g .0 .0) (g .0 .1 .0)
+    (c .before .before .before .numbers-at .result) (c .before .before .before .numbers-at .ensures) (g .0 .0) (g .0 .1 .0)
     (g .0 .1 .1 .0) (g .0 .1 .1 .1 .0) (g .1) in
     search header-laws)
     (λ c κs. search header-laws)

@@ -1,0 +1,2 @@
+pub mod SignedNumbers
+pub mod BoundLaws

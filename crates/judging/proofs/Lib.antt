@@ -1,0 +1,3 @@
+mod KindLaws
+mod RangeLaws
+pub mod JudgeLaws

@@ -1,9 +1,0 @@
--- `lines::judging::second_number` meets its contract. Assumes nothing.
-use Rattle.lines.proofs.JudgeLaws.{number-laws}
-use Rattle.lines.proofs.judging.second_number.Statement.{statement}
-use Rattle.lines.proofs.judging.second_number.Tie as tie
-
-pub second-number-spec : {M : Type 1} → statement M
-second-number-spec =
-    tie.close
-    (tie.spec (λ c κs. search number-laws) (λ c. search number-laws) (λ c κs. search number-laws) (λ c. search number-laws) (λ c. search number-laws) (λ c. search number-laws))

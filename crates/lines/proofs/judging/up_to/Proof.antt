@@ -1,7 +1,0 @@
--- `lines::judging::up_to` meets its contract. Assumes nothing.
-use Rattle.lines.proofs.RangeLaws.{range-laws}
-use Rattle.lines.proofs.judging.up_to.Statement.{statement}
-use Rattle.lines.proofs.judging.up_to.Tie as tie
-
-pub up-to-spec : {M : Type 1} → statement M
-up-to-spec = tie.close (tie.spec (λ c. search range-laws) (λ c. search range-laws) (λ c. search range-laws))

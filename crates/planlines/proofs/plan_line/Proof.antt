@@ -1,0 +1,19 @@
+-- `planlines::plan_line` meets its contract: a law for each number of operands. Assumes nothing.
+use Rattle.planlines.proofs.WordLaws.{count-laws}
+use Rattle.planlines.proofs.plan_line.Statement.{statement}
+use Rattle.planlines.proofs.plan_line.Tie as tie
+
+pub plan-line-spec : {M : Type 1} → statement M
+plan-line-spec =
+    tie.close
+    (tie.spec
+    (λ c κs. search count-laws)
+    (λ c κs. search count-laws)
+    (λ c. search count-laws)
+    (λ c. search count-laws)
+    (λ c κs. (search count-laws, search count-laws))
+    (λ c. search count-laws)
+    (λ c. search count-laws)
+    (λ c κs. (search count-laws, (search count-laws, search count-laws)))
+    (λ c. search count-laws)
+    (λ c. search count-laws))
