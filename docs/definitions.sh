@@ -1,6 +1,6 @@
 #!/usr/bin/env bash
-# Prints, file by file, how many lines have to be believed: all that the promises of the exported services reach. Imports, comments, blank lines and
-# worked tables are not counted. What only code or proofs use stands in files of its own, which are not listed here.
+# Prints, file by file, how many lines have to be believed: all that the promises of the exported services reach, but for the toolchain's own library
+# of lists and numbers. Imports, comments, blank lines and worked tables are not counted. What only code or proofs use stands in files of its own, which are not listed here.
 set -euo pipefail
 cd "$(dirname "${BASH_SOURCE[0]}")/../crates"
 

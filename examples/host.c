@@ -1,16 +1,56 @@
-/* Plans document 01's listing, checks the plan, erases it and asks for the least level. */
+/* Plans document 01's listing, checks the plan, erases it, asks for the least level and shows a refusal. Each reply is tested. */
 #include "../include/gowashiru.h"
 #include <stdio.h>
+#include <string.h>
+
+static const char circuit[] = "circuit\t60\t20\t2\nin\nconst\t7\nmul\t0\t1\nmul\t2\t1\nmul\t3\t3\nout\t4\n";
+/* The same at L = 1, which is too few levels. */
+static const char shallow[] = "circuit\t60\t20\t1\nin\nconst\t7\nmul\t0\t1\nmul\t2\t1\nmul\t3\t3\nout\t4\n";
+
+static uint8_t plan[GOWASHIRU_ENOUGH_BYTES], erasure[GOWASHIRU_ENOUGH_BYTES];
+
+/* Says so where a call was refused; the host then does without what it asked for. */
+static int refused(const char *call, struct gowashiru_reply reply) {
+    if (reply.number == GOWASHIRU_DONE)
+        return 0;
+    printf("%s: refused with %u at line %u of file %u\n", call, reply.number, reply.place, reply.file);
+    return 1;
+}
+
+static int plan_and_check(const uint8_t *text, size_t length) {
+    struct gowashiru_reply planned = gowashiru_plan(text, length, plan, sizeof plan);
+    if (refused("plan", planned))
+        return 1;
+    printf("%.*s", (int)planned.length, (const char *)plan);
+    if (refused("check", gowashiru_check(text, length, plan, planned.length)))
+        return 1;
+    struct gowashiru_reply erased = gowashiru_erase(plan, planned.length, erasure, sizeof erasure);
+    if (refused("erase", erased))
+        return 1;
+    int same = erased.length == length && memcmp(erasure, text, length) == 0;
+    printf("the plan passes and erases to %s\n", same ? "the circuit" : "another circuit");
+    return !same;
+}
+
+static int show_least_level(const uint8_t *text, size_t length) {
+    struct gowashiru_reply least = gowashiru_least_level(text, length);
+    if (refused("least level", least))
+        return 1;
+    printf("least level %u\n", least.length);
+    return 0;
+}
+
+/* A service mends what it can by the number: here it asks from which level on the circuit fits. */
+static int show_refusal(const uint8_t *text, size_t length) {
+    struct gowashiru_reply reply = gowashiru_plan(text, length, plan, sizeof plan);
+    if (!refused("plan", reply) || reply.number != GOWASHIRU_TOO_FEW_LEVELS)
+        return 1;
+    return show_least_level(text, length);
+}
 
 int main(void) {
-    static const uint8_t circuit[] = "circuit\t60\t20\t2\nin\nconst\t7\nmul\t0\t1\nmul\t2\t1\nmul\t3\t3\nout\t4\n";
-    static uint8_t plan[32768], erasure[32768];
-    size_t length = sizeof circuit - 1;
-    struct gowashiru_reply planned = gowashiru_plan(circuit, length, plan, sizeof plan);
-    struct gowashiru_reply checked = gowashiru_check(circuit, length, plan, planned.length);
-    struct gowashiru_reply erased = gowashiru_erase(plan, planned.length, erasure, sizeof erasure);
-    struct gowashiru_reply least = gowashiru_least_level(circuit, length);
-    printf("%.*s%.*s", (int)planned.length, (char *)plan, (int)erased.length, (char *)erasure);
-    printf("plan %u, check %u, erase %u, least level %u\n", planned.number, checked.number, erased.number, least.length);
-    return 0;
+    const uint8_t *text = (const uint8_t *)circuit;
+    if (plan_and_check(text, sizeof circuit - 1) || show_least_level(text, sizeof circuit - 1))
+        return 1;
+    return show_refusal((const uint8_t *)shallow, sizeof shallow - 1);
 }

@@ -16,39 +16,55 @@
 extern "C" {
 #endif
 
+/* The version of this header and of the command; the pkg-config file has it too. */
+#define GOWASHIRU_VERSION "0.1.0"
+
+/* A buffer of so many bytes is enough for every plan, which is proved, and for every erasure, which is a circuit and has at
+ * most 3,854. */
+#define GOWASHIRU_ENOUGH_BYTES 131072
+
+/* The stack to give a thread. At most 36,296 bytes were measured on x86-64 (check; erase 32,680, plan 31,208, least level
+ * 15,784) by tests/host/stack.c, on full files with the longest numbers in them. */
+#define GOWASHIRU_STACK_BYTES 131072
+
+/* What the number of a reply says. The numbers do not change. */
+enum gowashiru_number {
+    GOWASHIRU_DONE = 0,
+    /* Author of either file. */
+    GOWASHIRU_NOT_OF_THE_FORM = 1,       /* text not of the form */
+    GOWASHIRU_HEADER_OUT_OF_RANGE = 2,   /* header number outside its range */
+    GOWASHIRU_TOO_MANY_LINES = 3,        /* more lines than allowed: 256 in a circuit, 1,792 in a schedule; in erase also the
+                                          * 257th line whose first field is a circuit word */
+    GOWASHIRU_NO_USABLE_LINE = 4,        /* operand names no usable earlier line */
+    GOWASHIRU_WRONG_KIND = 5,            /* operand of the wrong kind */
+    GOWASHIRU_NUMBER_OUT_OF_RANGE = 11,  /* other number outside its range */
+    /* Author of a circuit. */
+    GOWASHIRU_TOO_FEW_LEVELS = 6,        /* no schedule of any length keeps the rules at this header and erases to this circuit
+                                          * (least level: at L = 60); at the first line whose best reserve is below zero */
+    /* Maker of a schedule (check). */
+    GOWASHIRU_LEVELS_DIFFER = 7,         /* levels differ in add or mul */
+    GOWASHIRU_SCALES_DIFFER = 8,         /* scales differ in add */
+    GOWASHIRU_BELOW_WATERLINE = 10,      /* scale below the waterline */
+    GOWASHIRU_ABOVE_MODULUS = 9,         /* scale above the modulus */
+    GOWASHIRU_ANOTHER_CIRCUIT = 12,      /* erases to another circuit; the place is the first circuit line that differs, or one
+                                          * past the shorter file; file 1 */
+    /* Caller. */
+    GOWASHIRU_BUFFER_TOO_SHORT = 13      /* buffer too short, after all else; place 0, file 0 */
+};
+
 /*
- * number 0 is success; file and place are then 0, and length is the number of bytes written (plan, erase), the least level
- * (least level) or 0 (check).
+ * number is one of the above. On success (0) file and place are 0, and length is the number of bytes written (plan, erase),
+ * the least level (least level) or 0 (check).
  *
  * Otherwise the call is refused: length is 0 and no lent byte has been changed. place is the text line that caused it,
  * counted from 1, and file the file of that line, counted from 1 in the order of the arguments; both are 0 where no line did.
  * A line that is missing has the place one past the last.
- *
- *   Author of either file:
- *    1  text not of the form
- *    2  header number outside its range
- *    3  more lines than allowed: 256 in a circuit, 1,792 in a schedule; in erase also the 257th line whose first field is a
- *       circuit word
- *    4  operand names no usable earlier line
- *    5  operand of the wrong kind
- *   11  other number outside its range
- *   Author of a circuit:
- *    6  too few levels: no schedule of any length keeps the rules at this header and erases to this circuit (least level: at
- *       L = 60); at the first line whose best reserve is below zero
- *   Maker of a schedule (check):
- *    7  levels differ
- *    8  scales differ in add
- *   10  scale below the waterline
- *    9  scale above the modulus
- *   12  erases to another circuit; the place is the first circuit line that differs, or one past the shorter file; file 1
- *   Caller:
- *   13  buffer too short, after all else; place 0, file 0
  */
 struct gowashiru_reply {
     uint32_t number, file, place, length;
 };
 
-/* Plans a circuit: writes its schedule to out. 131,072 bytes are always enough. Refuses with 1 to 6, 11, 13. */
+/* Plans a circuit: writes its schedule to out. Refuses with 1 to 6, 11, 13. */
 struct gowashiru_reply gowashiru_plan(const uint8_t *circuit, size_t circuit_len, uint8_t *out, size_t out_len);
 
 /* Checks a schedule against a circuit. Refuses with 1 to 5, 7 to 12. */
@@ -65,8 +81,7 @@ struct gowashiru_reply gowashiru_least_level(const uint8_t *circuit, size_t circ
 /*
  * What is left to the caller: each pointer with its length is memory that may be read during the call, and out memory that
  * may be read and written; no other thread writes to an input, or reads or writes out, during the call; out overlaps no input. With
- * length 0 a pointer is not followed and may be NULL. A call needs stack: at most 36,152 bytes were measured on x86-64 (check;
- * erase 32,544, plan 31,104, least level 15,688), so give a thread 128 KiB.
+ * length 0 a pointer is not followed and may be NULL. A thread that calls has GOWASHIRU_STACK_BYTES of stack.
  */
 
 #ifdef __cplusplus

@@ -9,6 +9,6 @@ cargo test --quiet --release --offline --manifest-path tests/reference/Cargo.tom
 cargo build --quiet --release --offline --manifest-path tests/reference/Cargo.toml
 cargo build --quiet --release --offline --manifest-path tests/bench/Cargo.toml
 target/tests/cargo/release/compare "$@"
-./plan.sh </dev/null >/dev/null
+tools/build.sh program
 target/tests/cargo/release/program target/bin/plan
 target/tests/cargo/release/bench --smoke

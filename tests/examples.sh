@@ -1,10 +1,10 @@
 #!/usr/bin/env bash
-# Runs every example through the archive and the program and compares every byte of each reply with the one beside it. The archive is built before.
+# Runs every example through the archive and the program and compares every byte of each reply with the one beside it. Both are built before.
 set -euo pipefail
 cd "$(dirname "${BASH_SOURCE[0]}")/.."
 mkdir -p target/tests
 gcc -std=c11 -Wall -Wextra -Werror -O2 -o target/tests/reply tests/reply.c target/staticlib/libgowashiru.a
-gcc -std=c11 -Wall -Wextra -Werror -O2 -o target/tests/host examples/host.c target/staticlib/libgowashiru.a
+gcc -std=c11 -Wall -Wextra -Wpedantic -Wconversion -Wshadow -Werror -O2 -o target/tests/host examples/host.c target/staticlib/libgowashiru.a
 count=0
 same() {
     local expected="$1"
@@ -19,7 +19,7 @@ for circuit in examples/*.circuit; do
     name="${circuit%.circuit}"
     same "$name.plan" target/tests/reply plan "$circuit"
     same "$name.least" target/tests/reply least "$circuit"
-    same "$name.plan" ./plan.sh <"$circuit"
+    same "$name.plan" target/bin/plan <"$circuit"
     if ! grep -q '^refused' "$name.plan"; then
         same <(echo passed) target/tests/reply check "$circuit" "$name.plan"
         same "$circuit" target/tests/reply erase "$name.plan"

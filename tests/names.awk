@@ -2,7 +2,7 @@
 
 BEGIN {
     # Words of the two files, of the languages and of commands, which are no names here.
-    split("in const neg rot add mul out enc rs ms us circuit schedule refused requires ensures break rt extern read write downscale", list, " ")
+    split("in const neg rot add mul out enc rs ms us circuit schedule refused requires ensures break rt extern read write memset memcpy printf i32 downscale", list, " ")
     for (i in list) words[list[i]] = 1
     split("old: new: file: ?", list, " ")
     for (i in list) words[list[i]] = 1
@@ -36,6 +36,17 @@ function begin_type(name) {
 function member(name) {
     define(name)
     if (type != "") dotted[type "." name] = 1
+}
+
+# The names of the header for C, and what stands at the margin of the command's sources: a function or a table.
+kind == "sources" && FILENAME ~ /\.[ch]$/ {
+    if (match($0, /^(#define | +)GOWASHIRU_[A-Z_]+/) || match($0, /^[a-z][a-z_0-9 *]*[(\[]/)) {
+        name = substr($0, RSTART, RLENGTH)
+        sub(/[(\[]$/, "", name)
+        sub(/.*[ *]/, "", name)
+        define(name)
+    }
+    next
 }
 
 kind == "sources" && FILENAME ~ /\.rt$/ {

@@ -27,8 +27,8 @@
 #include <unistd.h>
 
 enum {
-    STACK = 128 * 1024,   /* what the header says to give a thread */
-    ENOUGH = 131072,      /* what the header says is always enough for a plan */
+    STACK = GOWASHIRU_STACK_BYTES,
+    ENOUGH = GOWASHIRU_ENOUGH_BYTES,
     GUARD = 64,           /* bytes before and after each lent buffer */
     MOST_GROWTH = 256,    /* KiB */
     MOST_INPUTS = 2048,

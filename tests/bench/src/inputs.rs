@@ -49,9 +49,9 @@ pub fn long_circuit(lines: usize) -> Vec<u8> {
     text.into_bytes()
 }
 
-/// A schedule of so many lines that keeps the rules: the first 256 lines are kept, the rest are upscales that nobody uses.
+/// A schedule of so many lines that keeps the rules: the first seventh is kept, the rest are upscales that nobody uses.
 pub fn long_schedule(lines: usize) -> (Vec<u8>, Vec<u8>) {
-    let kept = lines.min(256);
+    let kept = lines / 7;
     let mut lines_kept = String::from("in\n");
     for i in 1..kept {
         lines_kept.push_str(&format!("rot\t{}\t{i}\n", i - 1));

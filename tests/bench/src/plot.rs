@@ -1,83 +1,135 @@
-//! The growth of each service's time with the number of lines, as an SVG: the archive, the Rust version and the yardstick in C.
+//! The growth of each service's time with the number of lines, as an SVG: the archive, the Rust version and the yardstick in C. Circuits and schedules have
+//! a panel each, and each curve is of one family of files, which differ in their length alone.
 
 use crate::Row;
 
-const SERVICES: [(&str, &str); 4] = [("plan", "#2b5c9e"), ("least level", "#7a4fa3"), ("check", "#b07a1e"), ("erase", "#2e7d4f")];
-const LEFT: f64 = 70.0;
-const BOTTOM: f64 = 380.0;
-const WIDTH: f64 = 560.0;
-const HEIGHT: f64 = 320.0;
+const BOTTOM: f64 = 400.0;
+const WIDTH: f64 = 320.0;
+const HEIGHT: f64 = 280.0;
+/// There are at most so many steps on an axis.
+const MOST_STEPS: f64 = 6.0;
+
+struct Panel {
+    title: &'static str,
+    family: &'static str,
+    services: [(&'static str, &'static str); 2],
+    left: f64,
+}
+
+const PANELS: [Panel; 2] = [
+    Panel { title: "Circuits", family: "circuit of", services: [("plan", "#2b5c9e"), ("least level", "#7a4fa3")], left: 60.0 },
+    Panel { title: "Schedules", family: "schedule of", services: [("check", "#b07a1e"), ("erase", "#2e7d4f")], left: 450.0 },
+];
+
+/// An axis from 0 to a whole number of round steps.
+struct Axis {
+    step: f64,
+    most: f64,
+}
+
+/// A step is 1, 2 or 5 times a power of ten, the least with which there are few enough.
+fn axis(greatest: f64) -> Axis {
+    let mut step = 1.0;
+    let mut factors = [2.0, 2.5, 2.0].into_iter().cycle();
+    while greatest / step > MOST_STEPS {
+        step *= factors.next().unwrap_or(2.0);
+    }
+    Axis { step, most: step * (greatest / step).ceil().max(1.0) }
+}
 
 struct Scale {
-    most_lines: f64,
-    most_time: f64,
+    left: f64,
+    lines: Axis,
+    micros: Axis,
 }
 
 impl Scale {
-    fn x(&self, lines: usize) -> f64 {
-        LEFT + WIDTH * lines as f64 / self.most_lines
+    fn x(&self, lines: f64) -> f64 {
+        self.left + WIDTH * lines / self.lines.most
     }
 
-    fn y(&self, time: f64) -> f64 {
-        BOTTOM - HEIGHT * time / self.most_time
+    fn y(&self, micros: f64) -> f64 {
+        BOTTOM - HEIGHT * micros / self.micros.most
     }
 }
 
-/// One family of files for each service, so that only their length differs.
-fn is_measured(row: &Row) -> bool {
-    row.input.starts_with(if row.service == "plan" || row.service == "least level" { "circuit of" } else { "schedule of" })
-}
-
-fn points<'a>(rows: &'a [Row], service: &str) -> Vec<&'a Row> {
-    let mut points: Vec<&Row> = rows.iter().filter(|row| row.service == service && is_measured(row)).collect();
+fn points<'a>(rows: &'a [Row], family: &str, service: &str) -> Vec<&'a Row> {
+    let mut points: Vec<&Row> = rows.iter().filter(|row| row.service == service && row.input.starts_with(family)).collect();
     points.sort_by_key(|row| row.lines);
     points
 }
 
-fn path(points: &[&Row], scale: &Scale, time: impl Fn(&Row) -> f64) -> String {
-    let steps: Vec<String> = points
-        .iter()
-        .enumerate()
-        .map(|(i, row)| format!("{}{:.1} {:.1}", if i == 0 { "M" } else { "L" }, scale.x(row.lines), scale.y(time(row))))
-        .collect();
-    steps.concat()
+fn curve(points: &[&Row], scale: &Scale, look: &str, time: impl Fn(&Row) -> f64) -> String {
+    let step = |(i, row): (usize, &&Row)| {
+        format!("{}{:.1} {:.1}", if i == 0 { "M" } else { "L" }, scale.x(row.lines as f64), scale.y(time(row) / 1000.0))
+    };
+    let path: String = points.iter().enumerate().map(step).collect();
+    format!("<path d=\"{path}\" fill=\"none\" {look}/>\n")
+}
+
+fn ticks(axis: &Axis) -> impl Iterator<Item = f64> + '_ {
+    (0..).map(|i| i as f64 * axis.step).take_while(|at| *at <= axis.most)
 }
 
 fn axes(scale: &Scale) -> String {
-    let mut text = format!("<path d=\"M{LEFT} {BOTTOM}H{}M{LEFT} {BOTTOM}V{}\" stroke=\"#444\" fill=\"none\"/>\n", LEFT + WIDTH, BOTTOM - HEIGHT);
-    for step in 0..=4 {
-        let (lines, time) = (scale.most_lines * step as f64 / 4.0, scale.most_time * step as f64 / 4.0);
-        let (x, y) = (LEFT + WIDTH * step as f64 / 4.0, BOTTOM - HEIGHT * step as f64 / 4.0);
-        text += &format!("<text x=\"{x:.0}\" y=\"{:.0}\" text-anchor=\"middle\">{lines:.0}</text>\n", BOTTOM + 20.0);
-        text += &format!("<text x=\"{:.0}\" y=\"{:.0}\" text-anchor=\"end\">{:.0}</text>\n", LEFT - 8.0, y + 4.0, time / 1000.0);
+    let (left, right) = (scale.left, scale.left + WIDTH);
+    let mut text = String::new();
+    for micros in ticks(&scale.micros) {
+        let y = scale.y(micros);
+        text += &format!("<path d=\"M{left:.0} {y:.1}H{right:.0}\" stroke=\"#d5dae1\"/>\n");
+        text += &format!("<text x=\"{:.0}\" y=\"{:.1}\" text-anchor=\"end\">{micros:.0}</text>\n", left - 8.0, y + 4.0);
     }
-    text += &format!("<text x=\"{:.0}\" y=\"{:.0}\" text-anchor=\"middle\">lines</text>\n", LEFT + WIDTH / 2.0, BOTTOM + 42.0);
-    text + &format!("<text x=\"20\" y=\"{:.0}\">µs</text>\n", BOTTOM - HEIGHT - 14.0)
+    for lines in ticks(&scale.lines) {
+        let x = scale.x(lines);
+        text += &format!("<path d=\"M{x:.1} {BOTTOM}V{:.0}\" stroke=\"#444\"/>\n", BOTTOM + 5.0);
+        text += &format!("<text x=\"{x:.1}\" y=\"{:.0}\" text-anchor=\"middle\">{lines:.0}</text>\n", BOTTOM + 20.0);
+    }
+    text += &format!("<path d=\"M{left:.0} {BOTTOM}H{right:.0}M{left:.0} {BOTTOM}V{:.0}\" stroke=\"#444\" fill=\"none\"/>\n", BOTTOM - HEIGHT);
+    text + &format!("<text x=\"{:.0}\" y=\"{:.0}\" text-anchor=\"middle\">lines of the file</text>\n", left + WIDTH / 2.0, BOTTOM + 42.0)
 }
 
-fn dashed(colour: &str, dashes: &str, path: &str) -> String {
-    format!("<path d=\"{path}\" stroke=\"{colour}\" stroke-width=\"1.5\" stroke-dasharray=\"{dashes}\" fill=\"none\"/>\n")
+fn panel(panel: &Panel, rows: &[Row]) -> String {
+    let Panel { title, family, services, left } = panel;
+    let shown: Vec<&Row> = services.iter().flat_map(|(service, _)| points(rows, family, service)).collect();
+    let greatest = |of: fn(&Row) -> f64| shown.iter().map(|row| of(row)).fold(1.0, f64::max);
+    let scale = Scale {
+        left: *left,
+        lines: axis(greatest(|row| row.lines as f64)),
+        micros: axis(greatest(|row| row.archive.max(row.rust).max(row.yardstick) / 1000.0)),
+    };
+    let mut text = format!("<text x=\"{left:.0}\" y=\"88\" font-weight=\"bold\">{title}</text>\n<text x=\"{left:.0}\" y=\"108\">µs a call</text>\n");
+    text += &axes(&scale);
+    for (i, (service, colour)) in services.iter().enumerate() {
+        let points = points(rows, family, service);
+        text += &curve(&points, &scale, &format!("stroke=\"{colour}\" stroke-width=\"2\""), |row| row.archive);
+        text += &curve(&points, &scale, &format!("stroke=\"{colour}\" stroke-width=\"1.5\" stroke-dasharray=\"5 4\""), |row| row.rust);
+        text += &curve(&points, &scale, &format!("stroke=\"{colour}\" stroke-width=\"1.5\" stroke-dasharray=\"1 4\""), |row| row.yardstick);
+        text += &format!("<text x=\"{:.0}\" y=\"{}\" fill=\"{colour}\" font-weight=\"bold\">{service}</text>\n", left + 14.0, 134 + 20 * i);
+    }
+    text
+}
+
+/// What a solid, a dashed and a dotted line are.
+fn legend() -> String {
+    let entries = [("archive", "stroke-width=\"2\""), ("Rust version", "stroke-dasharray=\"5 4\""), ("yardstick in C", "stroke-dasharray=\"1 4\"")];
+    let mut text = String::new();
+    for (i, (name, look)) in entries.iter().enumerate() {
+        let x = 60 + 150 * i;
+        text += &format!("<path d=\"M{x} 56H{}\" stroke=\"#222\" {look}/>\n<text x=\"{}\" y=\"60\">{name}</text>\n", x + 30, x + 38);
+    }
+    text
 }
 
 pub fn growth(rows: &[Row]) -> String {
-    let full: Vec<&Row> = rows.iter().filter(|row| is_measured(row)).collect();
-    let scale = Scale {
-        most_lines: full.iter().map(|row| row.lines).max().unwrap_or(1) as f64,
-        most_time: full.iter().map(|row| row.archive.max(row.rust)).fold(1.0, f64::max),
-    };
+    let title = "Time of a call by the length of its file";
     let mut text = String::from(
-        "<svg xmlns=\"http://www.w3.org/2000/svg\" viewBox=\"0 0 800 440\" width=\"800\" height=\"440\" font-family=\"sans-serif\" font-size=\"13\" fill=\"#222\">\n<rect width=\"800\" height=\"440\" fill=\"#fff\"/>\n",
+        "<svg xmlns=\"http://www.w3.org/2000/svg\" viewBox=\"0 0 800 460\" width=\"800\" height=\"460\" font-family=\"sans-serif\" font-size=\"13\" fill=\"#222\">\n",
     );
-    text += &axes(&scale);
-    for (i, (service, colour)) in SERVICES.iter().enumerate() {
-        let points = points(rows, service);
-        text += &format!("<path d=\"{}\" stroke=\"{colour}\" stroke-width=\"2\" fill=\"none\"/>\n", path(&points, &scale, |row| row.archive));
-        text += &dashed(colour, "5 4", &path(&points, &scale, |row| row.rust));
-        text += &dashed(colour, "1 4", &path(&points, &scale, |row| row.yardstick));
-        text += &format!("<text x=\"650\" y=\"{}\" fill=\"{colour}\">{service}</text>\n", 90 + 22 * i);
-    }
-    for (i, line) in ["solid: archive", "dashed: Rust", "dotted: C"].iter().enumerate() {
-        text += &format!("<text x=\"650\" y=\"{}\">{line}</text>\n", 190 + 20 * i);
+    text += &format!("<title>{title}</title>\n<rect width=\"800\" height=\"460\" fill=\"#ffffff\"/>\n");
+    text += &format!("<text x=\"20\" y=\"30\" font-size=\"16\" font-weight=\"bold\">{title}</text>\n");
+    text += &legend();
+    for one in &PANELS {
+        text += &panel(one, rows);
     }
     text + "</svg>\n"
 }

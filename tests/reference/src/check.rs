@@ -1,7 +1,7 @@
 //! Checking a schedule against a circuit: 12, then per line 7, 8, 10, 9.
 
 use crate::erase::erase;
-use crate::text::{File, Header, Line, Refusal, SCHEDULE_LINES};
+use crate::text::{File, Header, Line, Refusal, ValueKind, SCHEDULE_LINES};
 
 /// Scale and level of a ciphertext or encoded constant. A `rs` or `ms` past zero gives negative numbers.
 #[derive(Clone, Copy, PartialEq, Eq, Debug, Default)]
@@ -17,7 +17,7 @@ pub fn check(circuit: &File, schedule: &File) -> Result<(), Refusal> {
     if let Some(place) = first_difference(circuit, &erased) {
         return Err(Refusal { number: 12, place });
     }
-    keep_rules(schedule)
+    keep_rules(schedule, &mut [Standing::default(); SCHEDULE_LINES])
 }
 
 /// "place of the first circuit line that differs, or one past the shorter file"
@@ -31,18 +31,31 @@ fn first_difference(circuit: &File, erased: &File) -> Option<u32> {
     (equal < ours.len() || equal < theirs.len()).then_some(equal as u32 + 2)
 }
 
-fn keep_rules(schedule: &File) -> Result<(), Refusal> {
+/// Fills in where the lines stand, up to the first that breaks a rule; for 9 and 10 also where that one would.
+fn keep_rules(schedule: &File, held: &mut [Standing; SCHEDULE_LINES]) -> Result<(), Refusal> {
     let header = &schedule.header;
     // A bare constant holds no scale; its entry is never looked at, since no rule names it.
-    let mut held = [Standing::default(); SCHEDULE_LINES];
     for (n, &line) in schedule.lines().iter().enumerate() {
         let refused = |number| Refusal::at_value(number, n);
-        if let Some(standing) = standing_after(header, line, &held).map_err(refused)? {
-            within_bounds(header, standing).map_err(refused)?;
+        if let Some(standing) = standing_after(header, line, held).map_err(refused)? {
             held[n] = standing;
+            within_bounds(header, standing).map_err(refused)?;
         }
     }
     Ok(())
+}
+
+/// Where each line stands, none for a bare constant, up to the first that breaks a rule, and that one's refusal.
+pub fn standings(schedule: &File) -> (Vec<Option<Standing>>, Option<Refusal>) {
+    let mut held = [Standing::default(); SCHEDULE_LINES];
+    let refusal = keep_rules(schedule, &mut held).err();
+    let count = match refusal {
+        None => schedule.lines().len(),
+        Some(Refusal { number: 9 | 10, place }) => place as usize - 1,
+        Some(Refusal { place, .. }) => place as usize - 2,
+    };
+    let standing = |(line, &standing): (&Line, &Standing)| (line.kind() != ValueKind::Constant).then_some(standing);
+    (schedule.lines().iter().zip(&held).take(count).map(standing).collect(), refusal)
 }
 
 /// Where a line's value stands, by the rules of a line: 7 and 8.

@@ -1,5 +1,6 @@
 -- `plan::main` is safe: it prints only bytes that are there. Assumes nothing.
-use Rattle.plan.proofs.Laws.{main-laws}
+use lib.ListN.{length}
+use Rattle.plan.proofs.Laws.{read-fits, main-laws}
 use Rattle.plan.proofs.main.Statement.{statement}
 use Rattle.plan.proofs.main.Tie as tie
 
@@ -12,6 +13,15 @@ main-spec =
     (λ c κs. search main-laws)
     (λ c. search main-laws)
     (λ c. search main-laws)
+    (λ c. search main-laws)
+    (λ c.
+    let one = c .before .before .before .before .read-input in
+    let known = c .before .count .given in
+    search (main-laws, read-fits (length (one .last .0)) (known .0 .0) (one .result) (one .ensures) (known .1)))
+    (λ c.
+    let one = c .before .before .before .before .before .read-input in
+    let known = c .before .before .count .given in
+    search (main-laws, read-fits (length (one .last .0)) (known .0 .0) (one .result) (one .ensures) (known .1)))
     (λ c. search main-laws)
     (λ c κs. search main-laws)
     (λ c. search main-laws)

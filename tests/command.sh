@@ -1,0 +1,470 @@
+#!/usr/bin/env bash
+# Tries the command, plan.sh and the build: every example, every refusal with its words, every way of failing to read or write, help,
+# version and installation. The archive and the program are built before. Each case is counted, and the count is a stored one.
+set -uo pipefail
+cd "$(dirname "${BASH_SOURCE[0]}")/.."
+tools/build.sh command || exit 1
+room="$PWD/target/tests/command"
+rm -rf "$room"
+mkdir -p "$room"
+command="$PWD/target/command/gowashiru"
+count=0
+
+fail() {
+    echo "command: $1" >&2
+    echo "  its standard output: $(head -c 300 "$room/out")" >&2
+    echo "  its standard error: $(head -c 600 "$room/err")" >&2
+    exit 1
+}
+
+# Runs a command, which must end by itself with this status. Standard input is as it is given.
+try() { # STATUS WORDS...
+    local status=$1 got
+    shift
+    tried="$*"
+    timeout 60 "$@" >"$room/out" 2>"$room/err"
+    got=$?
+    count=$((count + 1))
+    [ "$got" -eq "$status" ] || fail "status $got, not $status: $tried"
+}
+
+prints() { # FILE
+    cmp -s "$room/out" "$1" || fail "does not print what is in $1: $tried"
+}
+
+prints_line() {
+    [ "$(cat "$room/out")" = "$1" ] || fail "does not print '$1': $tried"
+}
+
+prints_nothing() {
+    [ ! -s "$room/out" ] || fail "prints something: $tried"
+}
+
+says() { # TEXT...
+    local text
+    for text; do
+        grep -qF -- "$text" "$room/err" || fail "does not say '$text': $tried"
+    done
+}
+
+says_nothing() {
+    [ ! -s "$room/err" ] || fail "says something: $tried"
+}
+
+# A refusal: status 1, nothing on standard output, and the place and number in its first line.
+refused() { # NUMBER FILE PLACE WORDS...
+    local number=$1 file=$2 place=$3
+    shift 3
+    try 1 "$@"
+    prints_nothing
+    [[ "$(head -1 "$room/err")" == "$file:$place: "*"(refusal $number): "* ]] || fail "not refused with $number at $file:$place: $tried"
+}
+
+# A case that needs a tool which this machine lacks is told and counted.
+without() { # TOOL CASE
+    echo "command: no $1 here, so not tried: $2" >&2
+    count=$((count + 1))
+}
+
+# A terminal on standard input gets a hint, and is read.
+at_terminal() { # COMMAND
+    if ! command -v script >/dev/null; then
+        without script "$1 at a terminal"
+        return
+    fi
+    try 0 script -qec "$1" /dev/null < <(cat "$good"; sleep 1; printf '\004')
+    grep -q 'reading a circuit from the terminal; end it with Ctrl-D' "$room/out" || fail "no hint at a terminal: $tried"
+}
+
+# ---- Every example
+
+try_circuit() { # NAME
+    local word number place
+    read -r word number place <"$1.plan"
+    if [ "$word" = refused ]; then
+        refused "$number" "$1.circuit" "$place" "$command" plan "$1.circuit"
+    else
+        try 0 "$command" plan "$1.circuit"
+        prints "$1.plan"
+        try 0 "$command" plan <"$1.circuit"
+        prints "$1.plan"
+        try 0 "$command" check - "$1.plan" <"$1.circuit"
+        prints_line passed
+        try 0 "$command" erase "$1.plan"
+        prints "$1.circuit"
+        try_picture "$1.plan"
+    fi
+    try 0 "$command" least-level "$1.circuit"
+    prints_line "$(cut -f 2 "$1.least")"
+}
+
+# Every line of a schedule is drawn, and the text is whole.
+try_picture() { # SCHEDULE
+    try 0 "$command" picture "$1"
+    says_nothing
+    [[ "$(head -c 4 "$room/out")" == "<svg" || "$(head -c 5 "$room/out")" == "<?xml" ]] || fail "no SVG: $tried"
+    [ "$(tail -n 1 "$room/out")" = "</svg>" ] || fail "no whole SVG: $tried"
+}
+
+try_schedule() { # NAME
+    local word number file place circuit="${1%.*}.circuit"
+    read -r word number file place <"$1.check"
+    if [ "$word" = refused ]; then
+        [ "$file" = 1 ] && file="$circuit" || file="$1.schedule"
+        refused "$number" "$file" "$place" "$command" check "$circuit" "$1.schedule"
+    else
+        try 0 "$command" check "$circuit" "$1.schedule"
+        prints_line passed
+        try_picture "$1.schedule"
+    fi
+    try 0 "$command" erase "$1.schedule"
+    prints "$1.erasure"
+}
+
+for circuit in examples/*.circuit; do try_circuit "${circuit%.circuit}"; done
+for schedule in examples/*.schedule; do try_schedule "${schedule%.schedule}"; done
+
+# ---- Every refusal. A file is given as a format of printf.
+
+c="$room/c.circuit"
+s="$room/s.schedule"
+
+plan_says() { # NUMBER PLACE CIRCUIT TEXT...
+    local number=$1 place=$2
+    printf "$3" >"$c"
+    shift 3
+    refused "$number" "$c" "$place" "$command" plan "$c"
+    says "$@"
+}
+
+picture_says() { # NUMBER PLACE SCHEDULE TEXT...
+    local number=$1 place=$2
+    printf "$3" >"$s"
+    shift 3
+    refused "$number" "$s" "$place" "$command" picture "$s"
+    says "$@"
+}
+
+check_says() { # NUMBER FILE PLACE CIRCUIT SCHEDULE TEXT...
+    local number=$1 file=$2 place=$3
+    printf "$4" >"$c"
+    printf "$5" >"$s"
+    shift 5
+    refused "$number" "$file" "$place" "$command" check "$c" "$s"
+    says "$@"
+}
+
+lines() { # COUNT LINE
+    local i
+    for ((i = 0; i < $1; i++)); do printf '%s' "$2"; done
+}
+
+h='circuit\t60\t20\t2\n'
+plan_says 1 1 '' 'The file is empty' '`circuit F W L`'
+plan_says 1 1 'circuit 60 20 2\nin\n' 'circuit 60 20 2' 'A space stands in the line' 'one tab' "tr ' ' '\t'"
+plan_says 1 1 '\xef\xbb\xbf'"$h" '\xEF\xBB\xBFcircuit\t60' 'byte order mark'
+plan_says 1 1 '\xff\xfec\0' 'UTF-16' 'byte order mark'
+plan_says 1 1 'circuit\t60\t20\t2\r\nin\r\n' 'circuit\t60\t20\t2\r' 'A carriage return stands in the line' "tr -d '\r'"
+plan_says 1 3 "$h"'in\nneg\t0' 'neg\t0' 'The last line is not closed'
+plan_says 1 3 "$h"'in\n\0' 'ends in a NUL byte'
+! grep -q 'not closed' "$room/err" || fail "asks for a line feed where there is one: $tried"
+plan_says 1 3 "$h"'in\nneg\t0\0' 'ends in a NUL byte' 'The last line is not closed'
+plan_says 1 3 "$h"'in\nneg\0\t0\n' 'neg\x00\t0' 'A NUL byte stands in the line'
+plan_says 1 1 '# a comment\n' 'There are no comments'
+plan_says 1 2 "$h"'\nin\n' 'The line is empty'
+plan_says 1 3 "$h"'in\nmull\t0\t0\n' 'mull is no word of a circuit. Its words are in, const, neg, rot, add, mul, out.'
+plan_says 1 2 "$h"'\x1b[31m\n' '\x1B[31m is no word'
+plan_says 1 3 "$h"'in\nrs\t0\t1\n' '`rs A C` stands in schedules alone'
+plan_says 1 3 "$h"'in\nmul\t0\t0\t0\n' '`mul A B` has 2 numbers after the word, and here are 3.'
+plan_says 1 3 "$h"'in\nmul\t0\n' 'and here is 1.'
+plan_says 1 3 "$h"'in\nmul\t0\t\t0\n' 'A field is empty'
+plan_says 1 2 "$h"'in\t\n' 'A field is empty'
+plan_says 1 2 "$h"'const\t007\n' '007 is no number'
+plan_says 1 2 "$h"'const\t0.5\n' '0.5 is no number' 'K is the number under which the host keeps the constant'
+plan_says 1 2 "$h"'\tin\n' 'The line begins with a tab: take it out.'
+plan_says 1 3 "$h"'in\ncircuit\t60\t20\t2\n' 'A header stands in the first line alone'
+plan_says 1 3 "$h"'in\nrot\t0\t-0\n' '-0 is no number'
+plan_says 1 3 "$h"'in\nrot\t-1\t0\n' '-1 is no number'
+plan_says 1 2 "$h"'const\t123456789012\n' '123456789012 is no number' 'at most 11 bytes'
+plan_says 1 1 'circuit\t60\t20\n' '`circuit F W L` has 3 numbers'
+plan_says 1 1 'circuit\t60\t+20\t2\n' '+20 is no number'
+plan_says 1 1 'schedule\t60\t20\t2\n' 'This is a schedule, and a circuit is wanted here: `gowashiru erase` makes one'
+plan_says 1 1 'in\n' 'The first line is the header, `circuit F W L`'
+plan_says 2 1 'circuit\t61\t20\t0\n' 'header number outside its range' 'circuit 61 20 0' 'F = 61' 'L = 0' 'from 1 to 60'
+plan_says 3 258 "$h$(lines 257 'in\n')" 'more lines than allowed' 'at most 256 lines'
+plan_says 4 2 "$h"'neg\t0\n' 'operand names no usable earlier line' 'A = 0' 'none before it'
+plan_says 4 3 "$h"'in\nadd\t0\t1\n' 'B = 1: this line is value 1' 'from 0 to 0'
+plan_says 4 4 "$h"'in\nout\t0\nmul\t1\t5\n' 'A = 1: line 3 is an `out` line' 'Name what it names, 0.' 'B = 5'
+plan_says 5 4 "$h"'in\nconst\t5\nneg\t1\n' 'operand of the wrong kind' 'A = 1 is a constant, line 3: const 5' '`neg` takes a ciphertext'
+plan_says 5 4 "$h"'in\nconst\t5\nmul\t1\t1\n' '`mul` takes two ciphertexts, or a ciphertext and a constant.'
+plan_says 6 4 'circuit\t60\t20\t1\nin\nmul\t0\t0\nmul\t1\t1\n' 'too few levels (refusal 6): mul 1 1' 'This circuit fits from L = 2 on'
+plan_says 6 3 'circuit\t1\t60\t60\nin\nmul\t0\t0\n' 'fits at no L from 1 to 60' 'line 3'
+plan_says 11 3 "$h"'in\nrot\t0\t-32768\n' 'number outside its range' 'T = -32768' 'from -32767 to 32767'
+plan_says 11 2 "$h"'const\t65536\n' 'K = 65536' 'from 0 to 65535'
+printf 'circuit\t1\t60\t60\nin\nmul\t0\t0\n' >"$c"
+refused 6 "$c" 3 "$command" least-level "$c"
+says 'fits at no L from 1 to 60'
+
+h='schedule\t60\t20\t2\n'
+picture_says 1 1 'circuit\t60\t20\t2\n' 'This is a circuit, and a schedule is wanted here: `gowashiru plan` makes one'
+picture_says 1 3 "$h"'in\nsub\t0\t0\n' 'sub is no word of a schedule' 'out, enc, rs, ms, us.'
+picture_says 3 258 "$h$(lines 257 'in\n')" 'this is the 257th'
+picture_says 5 4 "$h"'in\nconst\t1\nmul\t0\t1\n' 'B = 1 is a constant' 'an encoded constant: `enc A S E` encodes'
+picture_says 5 3 "$h"'in\nenc\t0\t20\t1\n' '`enc` takes a constant.'
+picture_says 5 5 "$h"'in\nconst\t1\nenc\t1\t20\t1\nneg\t2\n' 'A = 2 is an encoded constant'
+picture_says 7 4 "$h"'in\nms\t0\t1\nmul\t0\t1\n' 'levels differ' 'Value 0 (line 2) has scale 20 and level 2.' \
+    'Value 1 (line 3) has scale 20 and level 1.' 'Bring both to one level'
+picture_says 8 4 "$h"'in\nus\t0\t15\nadd\t0\t1\n' 'scales differ in add' 'Value 1 (line 3) has scale 35 and level 2.' \
+    'Raise value 0 by 15 bits'
+picture_says 7 6 "$h"'in\nconst\t1\nenc\t1\t20\t2\nms\t0\t1\nmul\t3\t2\n' 'Value 2 is an encoded constant: encode it at level E = 1'
+picture_says 8 6 "$h"'in\nconst\t1\nmul\t0\t0\nenc\t1\t20\t2\nadd\t2\t3\n' 'Value 3 is an encoded constant: encode it at scale S = 40'
+picture_says 9 4 'schedule\t60\t20\t1\nin\nus\t0\t21\nmul\t0\t1\n' 'scale above the modulus' \
+    'Value 1 (line 3) has scale 41 and level 1.' 'This line would have scale 61 and level 1' 'F*level = 60 bits'
+picture_says 9 2 'schedule\t59\t60\t1\nin\n' 'An input has scale W and level L'
+picture_says 9 3 "$h"'const\t1\nenc\t0\t61\t1\n' 'Encode at a smaller scale S or at a higher level E.'
+picture_says 9 3 "$h"'in\nus\t0\t101\n' 'This line would have scale 121 and level 2' 'Raise it by less'
+picture_says 9 3 "$h"'in\nms\t0\t3\n' 'This line would have scale 20 and level -1'
+picture_says 10 4 "$h"'in\nus\t0\t59\nrs\t1\t1\n' 'scale below the waterline' 'Value 1 (line 3) has scale 79 and level 2.' \
+    'This line would have scale 19 and level 1; the waterline W is 20' 'Raise the scale with `us` before'
+picture_says 10 4 "$h"'in\nus\t0\t100\nrs\t1\t2\n' 'The lowest level is 1: give up fewer levels'
+picture_says 10 3 "$h"'const\t1\nenc\t0\t19\t1\n' 'Encode at a scale S of at least W.'
+picture_says 11 3 "$h"'const\t1\nenc\t0\t20\t3\n' 'E = 3' "from 1 to 2, the header's L"
+lines 1793 'in
+' | cat <(printf "$h") - >"$s"
+printf 'circuit\t60\t20\t2\nin\n' >"$c"
+refused 3 "$s" 1794 "$command" check "$c" "$s"
+says 'at most 1,792 lines'
+
+h='circuit\t60\t20\t2\n'
+check_says 12 "$c" 1 "$h"'in\n' 'schedule\t60\t20\t3\nin\n' 'erases to another circuit (refusal 12): circuit 60 20 2' \
+    "$s:1: erases to: circuit 60 20 3" "F, W and L have to be the circuit's"
+check_says 12 "$c" 3 "$h"'in\nneg\t0\n' 'schedule\t60\t20\t2\nin\nus\t0\t5\nout\t1\n' ': neg 0' "$s:4: erases to: out 0"
+check_says 12 "$c" 3 "$h"'in\nneg\t0\n' 'schedule\t60\t20\t2\nin\nus\t0\t5\n' ': neg 0' "$s erases to a circuit that ends before this line."
+check_says 12 "$c" 3 "$h"'in\n' 'schedule\t60\t20\t2\nin\nneg\t0\n' 'the file ends before this line' "$s:3: erases to: neg 0"
+check_says 12 "$c" 3 "$h"'in\n' "schedule\t60\t20\t2\n$(lines 257 'in\n')" 'keeps more lines than a circuit may have'
+check_says 1 "$c" 1 'schedule\t60\t20\t2\n' 'circuit\t60\t20\t2\n' 'a circuit is wanted here'
+check_says 1 "$s" 2 "$h" 'schedule\t60\t20\t2\nin 0\n' 'A space stands'
+check_says 8 "$s" 4 "$h"'in\nadd\t0\t0\n' 'schedule\t60\t20\t2\nin\nus\t0\t5\nadd\t0\t1\n' 'Raise value 0 by 5 bits'
+
+# ---- Reading
+
+good=examples/listing.circuit
+try 2 "$command" plan "$room/none"
+says "$room/none: No such file"
+try 2 "$command" plan "$room"
+says "$room: Is a directory"
+try 2 "$command" plan <"$room"
+says 'standard input: Is a directory'
+try 2 "$command" check "$good" "$room/none"
+says "$room/none: No such file"
+try 2 "$command" plan <&-
+says 'standard input: it is closed'
+try 2 "$command" plan /proc/self/mem
+says '/proc/self/mem: Input/output error'
+refused 1 /dev/zero 1 "$command" plan /dev/zero
+refused 1 'standard input' 1 "$command" erase < <(yes)
+refused 3 'standard input' 258 "$command" plan < <(printf 'circuit\t60\t20\t2\n'; yes in)
+refused 3 'standard input' 258 "$command" erase < <(printf 'schedule\t60\t20\t2\n'; yes in)
+# A long line is refused alike whether or not its end is read.
+refused 1 'standard input' 2 "$command" plan < <(printf 'circuit\t60\t20\t2\n'; head -c 60000 /dev/zero | tr '\0' x; echo)
+refused 1 'standard input' 2 "$command" plan < <(printf 'circuit\t60\t20\t2\n'; tr '\0' x </dev/zero)
+says 'longer than any'
+try 0 "$command" plan - <"$good"
+prints examples/listing.plan
+try 0 "$command" plan -- "$good"
+prints examples/listing.plan
+at_terminal "$command plan"
+
+# ---- Writing
+
+try 2 bash -c "'$command' plan $good >/dev/full"
+says 'standard output: No space left on device'
+try 2 bash -c "'$command' plan $good >&-"
+says 'standard output: it is closed'
+try 2 bash -c "'$command' --help >/dev/full"
+says 'No space left on device'
+try 2 bash -c "{ sleep 0.5; '$command' plan $good; echo \$? >'$room/status'; } | true; exit \$(cat '$room/status')"
+says 'standard output: Broken pipe'
+try 0 "$command" plan "$good" -o "$room/new.schedule"
+prints_nothing
+cmp -s "$room/new.schedule" examples/listing.plan || fail "not the plan: $tried"
+chmod 640 "$room/new.schedule"
+try 0 "$command" erase examples/listing.plan -o "$room/new.schedule"
+cmp -s "$room/new.schedule" "$good" || fail "not the erasure: $tried"
+[ "$(stat -c %a "$room/new.schedule")" = 640 ] || fail "another mode: $tried"
+ln -s new.schedule "$room/link"
+try 0 "$command" plan -o "$room/link" "$good"
+[ -L "$room/link" ] && cmp -s "$room/new.schedule" examples/listing.plan || fail "the link is lost: $tried"
+ln -s nothing "$room/dangling"
+try 2 "$command" plan -o "$room/dangling" "$good"
+says 'it is a link to a file that is not there'
+cp "$good" "$room/own"
+try 0 "$command" plan "$room/own" -o "$room/own"
+cmp -s "$room/own" examples/listing.plan || fail "not the plan: $tried"
+try 1 "$command" plan examples/power_16.circuit -o "$room/own"
+cmp -s "$room/own" examples/listing.plan || fail "a refusal wrote: $tried"
+# No file may grow: what is written fails, and what was there stays.
+try 2 bash -c "ulimit -f 0; exec '$command' erase examples/listing.plan -o '$room/own' 2>/dev/null"
+cmp -s "$room/own" examples/listing.plan || fail "a failed write changed the file: $tried"
+try 2 bash -c "ulimit -f 0; exec '$command' plan $good -o '$room/other' 2>/dev/null"
+[ ! -e "$room/other" ] || fail "a failed write left a file: $tried"
+[ -z "$(find "$room" -name '*.??????')" ] || fail "a file is left behind"
+try 2 "$command" plan "$good" -o "$room"
+says 'Is a directory'
+try 2 "$command" plan "$good" -o "$room/none/x"
+says 'No such file'
+try 2 "$command" plan "$good" -o /dev/full
+says '/dev/full: No space left on device'
+try 0 "$command" plan "$good" -o /dev/stdout
+prints examples/listing.plan
+try 0 "$command" plan "$good" -o -
+prints examples/listing.plan
+try 0 bash -c "'$command' plan $good -o '$room/quiet' >&-"
+cmp -s "$room/quiet" examples/listing.plan || fail "not the plan: $tried"
+
+# ---- Use
+
+try 2 "$command"
+says 'which command?' 'gowashiru --help'
+try 2 "$command" draw
+says 'no such command: draw'
+try 2 "$command" -o "$room/x" plan "$good"
+says 'a command comes first'
+try 2 "$command" plan -x "$good"
+says 'no such option: -x' 'gowashiru plan --help'
+try 2 "$command" plan "$good" "$good"
+says 'one file too many'
+try 2 "$command" check "$good"
+says 'check needs two files'
+try 2 "$command" check - -
+says 'only one file can be standard input'
+try 2 "$command" plan -o
+says '-o needs the name of a file'
+try 2 "$command" plan -o a -o b "$good"
+says '-o is given twice'
+try 0 "$command" --help
+says_nothing
+for name in plan check erase least-level picture; do
+    grep -q "^  $name " "$room/out" || fail "help leaves out $name"
+done
+for name in plan check erase least-level picture; do
+    try 0 "$command" "$name" --help
+    grep -q "^usage: gowashiru $name " "$room/out" || fail "no usage: $tried"
+done
+try 0 "$command" --version
+prints_line "gowashiru $(sed -n 's/^.define GOWASHIRU_VERSION "\(.*\)"/\1/p' include/gowashiru.h)"
+try 0 ./gowashiru plan "$good"
+prints examples/listing.plan
+says_nothing
+try 0 bash -c "./gowashiru plan $good 2>&-"
+prints examples/listing.plan
+
+# ---- Installation
+
+try 0 make --silent install DESTDIR="$room/installed" PREFIX=/opt
+try 0 "$room/installed/opt/bin/gowashiru" plan "$good"
+prints examples/listing.plan
+[ -s "$room/installed/opt/share/man/man1/gowashiru.1" ] || fail "no manual page"
+[ -s "$room/installed/opt/share/doc/gowashiru/FORMAT.md" ] || fail "no page on the files"
+sed "s|\.\./include/||" examples/host.c >"$room/host.c"
+sed -i "s|^prefix=|&$room/installed|" "$room/installed/opt/lib/pkgconfig/gowashiru.pc"
+if command -v pkg-config >/dev/null; then
+    try 0 bash -c "PKG_CONFIG_PATH='$room/installed/opt/lib/pkgconfig'; export PKG_CONFIG_PATH
+        gcc '$room/host.c' \$(pkg-config --cflags --libs gowashiru) -o '$room/host' && '$room/host'"
+    prints examples/host.expected
+else
+    without pkg-config "a host built with the installed library"
+fi
+
+# ---- plan.sh
+
+try 0 ./plan.sh <"$good"
+prints examples/listing.plan
+says_nothing
+try 1 ./plan.sh <examples/power_16.circuit
+prints examples/power_16.plan
+try 1 ./plan.sh </dev/null
+prints <(printf 'refused\t1\t1\n')
+try 1 ./plan.sh </dev/zero
+prints <(printf 'refused\t1\t1\n')
+try 2 ./plan.sh <"$room"
+prints_nothing
+says 'standard input cannot be read'
+try 2 ./plan.sh </proc/self/mem
+prints_nothing
+says 'standard input cannot be read'
+try 2 ./plan.sh <&-
+prints_nothing
+says 'standard input is closed'
+try 2 bash -c "./plan.sh <$good >/dev/full"
+says 'standard output cannot be written'
+try 2 bash -c "./plan.sh <$good >&-"
+says 'standard output cannot be written'
+try 2 bash -c "{ sleep 0.5; ./plan.sh <$good; echo \$? >'$room/status'; } | true; exit \$(cat '$room/status')"
+says 'standard output cannot be written'
+try 0 bash -c "./plan.sh <$good 2>&-"
+prints examples/listing.plan
+try 2 ./plan.sh "$good"
+prints_nothing
+says 'usage: plan.sh'
+at_terminal ./plan.sh
+
+# ---- Building, in a copy, with a stand-in for rt that says what rt says
+
+copy="$room/copy"
+mkdir -p "$copy" "$room/bin"
+cp -r tools crates crates.txt toolchain.txt include plan.sh "$copy"
+bin_without_rt="$(dirname "$(command -v bash)"):/usr/bin:/bin"
+try 2 env PATH="$bin_without_rt" "$copy/plan.sh" <"$good"
+says 'there is no rt on the PATH' "$(cat toolchain.txt)"
+stand_in() { # VERSION
+    cat >"$room/bin/rt" <<END
+#!/bin/sh
+case "\$1" in
+version) echo "$1" ;;
+check)
+    echo "rt: fields proved (unchanged since it was last proved)"
+    echo "rt: ints proved (3 s)"
+    echo "rt: plan proved (4 s)"
+    echo check >>$room/asked
+    mkdir -p target/bin && printf '#!/bin/sh\necho planned\n' >target/bin/plan && chmod +x target/bin/plan
+    ;;
+esac
+END
+    chmod +x "$room/bin/rt"
+}
+stand_in "another kit"
+try 0 env PATH="$room/bin:$bin_without_rt" "$copy/plan.sh" <"$good"
+says 'another one than all was proved with' "wanted: $(cat toolchain.txt)" 'found:  another kit'
+rm -rf "$copy/target" "$room/asked"
+stand_in "$(cat toolchain.txt)"
+try 0 env PATH="$room/bin:$bin_without_rt" "$copy/plan.sh" <"$good"
+prints_line planned
+grep -Eq '^proved 2 of [0-9]+: ints$' "$room/err" || fail "no line for a crate: $tried"
+grep -Eq '^proved 3 of [0-9]+: plan$' "$room/err" || fail "no line for the last crate: $tried"
+[ "$(wc -l <"$room/err")" -eq 3 ] || fail "more than a line a crate"
+grep -q '^rt: fields proved (unchanged' "$copy/target/build.log" || fail "no log"
+touch "$copy/crates/ints/src/lib.rt"
+try 0 env PATH="$bin_without_rt" "$copy/plan.sh" <"$good"
+says_nothing
+echo '// A change.' >>"$copy/crates/ints/src/lib.rt"
+try 0 env PATH="$room/bin:$bin_without_rt" "$copy/plan.sh" <"$good"
+[ "$(wc -l <"$room/asked")" -eq 2 ] || fail "a change was not noticed"
+echo '# not what was built' >>"$copy/target/bin/plan"
+try 0 env PATH="$room/bin:$bin_without_rt" "$copy/plan.sh" <"$good"
+[ "$(wc -l <"$room/asked")" -eq 3 ] || fail "another program was not noticed"
+
+cat >"$room/bin/rt" <<'END'
+#!/bin/sh
+[ "$1" = version ] && exec cat toolchain.txt
+echo "rt: ints NOT PROVED (exit 1, 3 s)"
+exit 1
+END
+echo '// Another change.' >>"$copy/crates/ints/src/lib.rt"
+try 2 env PATH="$room/bin:$bin_without_rt" "$copy/plan.sh" <"$good"
+prints_nothing
+says 'ints is not proved' 'plan cannot be built' 'target/build.log says why'
+
+expected=207
+[ "$count" -eq "$expected" ] || fail "$count cases, not $expected. If it is meant, store the number and say why in the commit."
+echo "command: $count cases as they should be"

@@ -1,0 +1,71 @@
+#!/usr/bin/env bash
+# Runs every example of docs/FORMAT.md and README.md on the archive and compares every byte. A block marked `circuit` or `schedule` is a file, one marked
+# `sh` prints one; `plan`, `check`, `erase` and `least-level` have what is replied on the last circuit, the last schedule or both; a plan is a schedule too.
+# `c` is a program and `prints` its output; a block marked `console` is not run. The pages' pictures are drawn anew. The archive is built before.
+set -euo pipefail
+cd "$(dirname "${BASH_SOURCE[0]}")/.."
+replies_stored=42
+folder=target/tests/format
+rm -rf "$folder"
+mkdir -p "$folder"
+gcc -std=c11 -Wall -Wextra -Werror -O2 -o target/tests/reply tests/reply.c target/staticlib/libgowashiru.a
+# A block stands in a file that is named by its page and line, in order.
+awk -v folder="$folder" '
+    /^```/ {
+        inside = !inside
+        if (inside) {
+            page = FILENAME
+            sub(/.*\//, "", page)
+            file = sprintf("%s/%s:%05d.%s", folder, page, FNR, substr($0, 4))
+            printf "" >file
+        } else close(file)
+        next
+    }
+    inside { print >file }' docs/FORMAT.md README.md
+count=0
+fail() {
+    echo "format: ${block##*/}: $*" >&2
+    exit 1
+}
+same() {
+    if ! "$@" >"$folder/reply" || ! cmp "$folder/reply" "$block"; then fail "not the reply"; fi
+    count=$((count + 1))
+}
+least_level() {
+    target/tests/reply least "$1" | sed 's/^level\t//'
+}
+for block in "$folder"/*; do
+    case "${block##*.}" in
+    circuit) circuit="$block" ;;
+    schedule) schedule="$block" ;;
+    sh)
+        bash "$block" >"$block.printed"
+        if grep -q '^schedule' "$block.printed"; then schedule="$block.printed"; else circuit="$block.printed"; fi
+        ;;
+    plan)
+        same target/tests/reply plan "$circuit"
+        if ! grep -q '^refused' "$block"; then schedule="$block"; fi
+        ;;
+    check) same target/tests/reply check "$circuit" "$schedule" ;;
+    erase) same target/tests/reply erase "$schedule" ;;
+    least-level) same least_level "$circuit" ;;
+    c)
+        gcc -std=c11 -Wall -Wextra -Werror -O2 -Iinclude -x c -o "$folder/program" "$block" -x none target/staticlib/libgowashiru.a
+        "$folder/program" >"$folder/printed" || fail "the program fails"
+        ;;
+    prints) same "$folder/program" ;;
+    console) ;;
+    *) fail "a block without a mark" ;;
+    esac
+done
+# The pictures of the pages are what the command draws.
+plans=("$folder"/FORMAT.md:*.plan)
+for picture in "${plans[0]} first_circuit" "examples/listing.plan listing" "examples/cubed_sum.plan cubed_sum"; do
+    block="docs/${picture#* }.svg"
+    same ./gowashiru picture "${picture% *}"
+done
+for number in $(seq 13); do
+    grep -q "^refused	$number	" "$folder"/FORMAT.md:*.{plan,check,erase,least-level,prints} || fail "no example of refusal $number"
+done
+[ "$count" = "$replies_stored" ] || fail "$count replies, and $replies_stored are stored in tests/format.sh"
+echo "format: $count replies of the pages as they should be, each refusal among them"

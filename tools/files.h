@@ -1,0 +1,30 @@
+/* Files read, and results written whole or not at all. What fails is said on standard error. */
+#ifndef FILES_H
+#define FILES_H
+
+#include <stdbool.h>
+#include <stddef.h>
+#include <stdint.h>
+
+/* A good circuit has at most 3,854 bytes and a good schedule at most 30,482, and no line of either form more than 45. So a longer
+ * input is refused by what is read here, at the same line and for the same reason, and an endless input ends. */
+enum { READ_BYTES = 65536 };
+
+struct file {
+    const char *name; /* as it is shown */
+    bool is_schedule;
+    bool ended; /* the end of the input was reached, so what is read is all of it */
+    size_t length;
+    uint8_t bytes[READ_BYTES];
+};
+
+/* A closed standard input, output or error is noted and its number taken, so that no file that is opened later gets it. */
+bool hold_standard_files(void);
+
+/* Reads the file of this name, or standard input where it is "-" or NULL. */
+bool read_file(struct file *file, const char *name);
+
+/* Writes the bytes to the file of this name, or to standard output where it is "-" or NULL. */
+bool write_result(const char *name, const void *bytes, size_t length);
+
+#endif

@@ -1,0 +1,157 @@
+#include "form.h"
+#include "show.h"
+
+#include <stdio.h>
+#include <string.h>
+
+/* No line of the form is longer: `schedule` and three numbers of 11 bytes. */
+enum { LINE_BYTES = 44 };
+
+static const char *header_form(const struct file *file) {
+    return file->is_schedule ? "schedule F W L" : "circuit F W L";
+}
+
+static bool begins_with(const struct file *file, const char *bytes, size_t length) {
+    return file->length >= length && memcmp(file->bytes, bytes, length) == 0;
+}
+
+static bool tell_mark(const struct file *file, uint32_t place) {
+    if (place != 1)
+        return false;
+    if (begins_with(file, "\xEF\xBB\xBF", 3))
+        fputs("  The file begins with a byte order mark: save it as UTF-8 without one.\n", stderr);
+    else if (begins_with(file, "\xFF\xFE", 2) || begins_with(file, "\xFE\xFF", 2))
+        fputs("  The file is UTF-16 and begins with a byte order mark: save it as UTF-8 without one.\n", stderr);
+    else
+        return false;
+    return true;
+}
+
+static bool tell_nul(const struct file *file, struct piece line) {
+    if (!has_byte(line, 0))
+        return false;
+    bool is_last = file->ended && !line.is_closed && line.bytes[line.length - 1] == 0;
+    if (is_last)
+        fputs("  The file ends in a NUL byte, which is no part of the text: leave out the byte that ends a C string.\n", stderr);
+    else
+        fputs("  A NUL byte stands in the line: take it out.\n", stderr);
+    return true;
+}
+
+static bool tell_return(struct piece line) {
+    if (!has_byte(line, '\r'))
+        return false;
+    fputs("  A carriage return stands in the line. Lines end in a line feed alone: save the file with Unix line ends,\n"
+          "  or remove each carriage return with tr -d '\\r'.\n", stderr);
+    return true;
+}
+
+static bool tell_space(struct piece line) {
+    if (!has_byte(line, ' '))
+        return false;
+    fputs("  A space stands in the line. Fields are parted by one tab, and nothing else stands between them: tr ' ' '\\t' makes a tab\n"
+          "  of each space.\n", stderr);
+    return true;
+}
+
+/* Where only the front of the input was read, it is not known whether a line feed follows. */
+static bool tell_length(const struct file *file, struct piece line) {
+    if (line.is_closed)
+        return false;
+    if (file->ended)
+        fputs("  The last line is not closed: end the file with a line feed.\n", stderr);
+    else
+        fprintf(stderr, "  The line is longer than any that is of the form (%d bytes).\n", LINE_BYTES);
+    return true;
+}
+
+static void tell_number(struct piece field) {
+    fputs("  ", stderr);
+    if (field.length == 0) {
+        fputs("A field is empty: one tab parts two fields, and none stands at the end.\n", stderr);
+        return;
+    }
+    show_bytes(field);
+    fputs(" is no number: digits, at most 11 bytes, no point, no leading zero, no plus, and a minus only before the T of rot, not before 0.\n", stderr);
+}
+
+/* The number of fields, then each of them. */
+static void tell_fields(struct piece line, const char *form, size_t count, bool has_rotation) {
+    int64_t number;
+    for (size_t i = 1; i < field_count(line); i++) {
+        struct piece field = field_at(line, i);
+        if (field.length == 0 || (i <= count && !number_of(field, has_rotation && i == 2, &number))) {
+            tell_number(field);
+            return;
+        }
+    }
+    fprintf(stderr, "  `%s` has %zu number%s after the word, and here %s %zu.\n", form, count, count == 1 ? "" : "s",
+            field_count(line) == 2 ? "is" : "are", field_count(line) - 1);
+}
+
+static void tell_header(const struct file *file, struct piece line) {
+    struct piece word = field_at(line, 0);
+    const char *wanted = file->is_schedule ? "schedule" : "circuit", *other = file->is_schedule ? "circuit" : "schedule";
+    if (is_text(word, wanted))
+        tell_fields(line, header_form(file), 3, false);
+    else if (is_text(word, other))
+        fprintf(stderr, "  This is a %s, and a %s is wanted here: `gowashiru %s` makes one of it. Of two files the circuit comes first.\n", other, wanted,
+                file->is_schedule ? "plan" : "erase");
+    else
+        fprintf(stderr, "  The first line is the header, `%s`: the rescale factor, the waterline and the top level.\n", header_form(file));
+}
+
+static void tell_words(const struct file *file, struct piece field) {
+    fputs("  ", stderr);
+    show_bytes(field);
+    fprintf(stderr, " is no word of a %s. Its words are", file->is_schedule ? "schedule" : "circuit");
+    const char *mark = " ";
+    for (size_t i = 0; i < word_count; i++) {
+        if (!file->is_schedule && !known_words[i].is_kept)
+            continue;
+        fprintf(stderr, "%s%s", mark, known_words[i].name);
+        mark = ", ";
+    }
+    fputs(".\n", stderr);
+}
+
+static void tell_record(const struct file *file, struct piece line) {
+    const struct word *word = word_of(field_at(line, 0));
+    if (line.length == 0)
+        fputs("  The line is empty: take it out.\n", stderr);
+    else if (is_text(field_at(line, 0), "circuit") || is_text(field_at(line, 0), "schedule"))
+        fputs("  A header stands in the first line alone: one file holds one circuit or schedule.\n", stderr);
+    else if (word == NULL)
+        tell_words(file, field_at(line, 0));
+    else if (!file->is_schedule && !word->is_kept)
+        fprintf(stderr, "  `%s` stands in schedules alone. A circuit has no scales and levels: planning puts them in.\n", word->form);
+    else
+        tell_fields(line, word->form, word->count, word->count == 2 && word->fields[1] == ROTATION);
+    if (word != NULL && word->count == 1 && word->fields[0] == CONSTANT && field_count(line) == 2)
+        fputs("  K is the number under which the host keeps the constant, and not its value.\n", stderr);
+}
+
+/* Bytes that stand in no file of the form, each told. */
+static bool tell_bytes(const struct file *file, struct piece line) {
+    bool told = tell_nul(file, line);
+    told = tell_return(line) || told;
+    told = tell_space(line) || told;
+    bool is_only_nul = line.length == 1 && line.bytes[0] == 0; /* without it no line is left to be closed */
+    return (!is_only_nul && tell_length(file, line)) || told;
+}
+
+void tell_form(const struct file *file, uint32_t place) {
+    struct piece line = line_at(file, place);
+    if (!line.is_there)
+        fprintf(stderr, "  The file is empty. Its first line is the header, `%s`.\n", header_form(file));
+    else if (line.length > 0 && line.bytes[0] == '#')
+        fputs("  There are no comments: take the line out.\n", stderr);
+    else if (tell_mark(file, place) || tell_bytes(file, line))
+        return;
+    else if (line.length > 0 && line.bytes[0] == '\t')
+        fputs("  The line begins with a tab: take it out.\n", stderr);
+    else if (place == 1)
+        tell_header(file, line);
+    else
+        tell_record(file, line);
+}

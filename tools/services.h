@@ -1,0 +1,13 @@
+/* The library's services on files: each reads, calls, and writes the result or tells the refusal. */
+#ifndef SERVICES_H
+#define SERVICES_H
+
+#include "arguments.h"
+
+enum status run_plan(const struct arguments *arguments);
+enum status run_check(const struct arguments *arguments);
+enum status run_erase(const struct arguments *arguments);
+enum status run_least_level(const struct arguments *arguments);
+enum status run_picture(const struct arguments *arguments);
+
+#endif
