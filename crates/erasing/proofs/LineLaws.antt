@@ -7,8 +7,8 @@ use mathlib.Core.List.{List, [], _∷_}
 use borrow.Author.Needs.{needs}
 use lib.ListN.{length, getD}
 use Rattle.model.specs.declared.Line.{Line}
-use Rattle.model.specs.declared.Line.the-variants.{In, Const, Neg, Rot, Add, Mul, Out, Enc, Rs, Ms, Us, Free}
 use Rattle.model.specs.Services.{kept, madeFrom, fateOf, renamed}
+use Rattle.model.proofs.EveryWord.{each-line}
 use Rattle.tables.specs.Records.{isStruck}
 use Rattle.tables.specs.Operands.{firstOperand, secondOperand, withOperands}
 use Rattle.erasing.specs.declared.Erased.the-variants.{Kept, Struck}
@@ -28,18 +28,7 @@ module _ (x : Line) where
 -- a line is renamed by its operands' new numbers
 pub renamed-is : (f : ℕ → ℕ) (x : Line) → withOperands x (f (firstOperand x)) (f (secondOperand x)) ≡ renamed f x
 unfolding firstOperand secondOperand
-renamed-is f In = refl
-renamed-is f (Const k) = refl
-renamed-is f (Neg a) = refl
-renamed-is f (Rot a t) = refl
-renamed-is f (Add a b) = refl
-renamed-is f (Mul a b) = refl
-renamed-is f (Out a) = refl
-renamed-is f (Enc a s e) = refl
-renamed-is f (Rs a c) = refl
-renamed-is f (Ms a c) = refl
-renamed-is f (Us a b) = refl
-renamed-is f Free = refl
+renamed-is f x = each-line (λ y. withOperands y (f (firstOperand y)) (f (secondOperand y))) (renamed f) (λ ns. refl) x
 
 -- ---- origins
 -- an origin that is there is found whatever stands for one that is not

@@ -25,13 +25,13 @@ use Rattle.model.specs.declared.Kind.{Kind}
 use Rattle.model.specs.declared.Kind.the-variants.{Nothing}
 use Rattle.model.specs.declared.Line.{Line}
 use Rattle.model.specs.declared.Word.{Word}
-use Rattle.model.specs.declared.Word.the-variants.{In, Const, Neg, Rot, Add, Mul, Out, Enc, Rs, Ms, Us, NoWord}
+use Rattle.model.specs.declared.Word.the-variants.{Rot}
 use Rattle.model.specs.Scales.{headerInRange}
 use Rattle.model.specs.Words.{Asks, noOperand, aCiphertext, aConstant, aPair, entry, hasWord}
 use Rattle.model.specs.Numbering.{sameWord}
 use Rattle.model.specs.Files.{lineOf, isWord, inRange, operands, kindAt, isCiphertext, isConstant, isUsable, isPair, everyUsable, asksFor, kindsFit}
 use Rattle.model.proofs.Tests.{and-first, and-second, header-facts}
-use Rattle.model.proofs.EveryWord.{every-word, same-word}
+use Rattle.model.proofs.EveryWord.{each-word, every-word, same-word}
 use Rattle.text.proofs.WordLaws.{said-line}
 use Rattle.text.proofs.FormLaws.{line-bounded}
 use Rattle.forms.proofs.TextLaws.{isSigned, numbers-held}
@@ -159,20 +159,8 @@ operandsBy Ciphertext a b = a ∷ []
 operandsBy Constant a b = a ∷ []
 operandsBy Pair a b = a ∷ b ∷ []
 
-module _ (a b c : ℤ) where
-  operands-are : (w : Word) → operands (lineOf w (a ∷ b ∷ c ∷ [])) ≡ operandsBy (rowOf w .asks) (positive a) (positive b)
-  operands-are In = refl
-  operands-are Const = refl
-  operands-are Neg = refl
-  operands-are Rot = refl
-  operands-are Add = refl
-  operands-are Mul = refl
-  operands-are Out = refl
-  operands-are Enc = refl
-  operands-are Rs = refl
-  operands-are Ms = refl
-  operands-are Us = refl
-  operands-are NoWord = refl
+operands-are : (a b c : ℤ) (w : Word) → operands (lineOf w (a ∷ b ∷ c ∷ [])) ≡ operandsBy (rowOf w .asks) (positive a) (positive b)
+operands-are a b c w = each-word (λ v. operands (lineOf v (a ∷ b ∷ c ∷ []))) (λ v. operandsBy (rowOf v .asks) (positive a) (positive b)) refl w
 
 and-true : (b : Bool) → (b && true) ≡ b
 and-true true = refl
@@ -194,18 +182,7 @@ fit-asked g lines aPair a b = refl
 
 -- no line asks for more than three numbers
 first-three : (w : Word) (ns : List ℤ) → lineOf w ns ≡ lineOf w (getD ns 0 (pos 0) ∷ getD ns 1 (pos 0) ∷ getD ns 2 (pos 0) ∷ [])
-first-three In ns = refl
-first-three Const ns = refl
-first-three Neg ns = refl
-first-three Rot ns = refl
-first-three Add ns = refl
-first-three Mul ns = refl
-first-three Out ns = refl
-first-three Enc ns = refl
-first-three Rs ns = refl
-first-three Ms ns = refl
-first-three Us ns = refl
-first-three NoWord ns = refl
+first-three w ns = each-word (λ v. lineOf v ns) (λ v. lineOf v (getD ns 0 (pos 0) ∷ getD ns 1 (pos 0) ∷ getD ns 2 (pos 0) ∷ [])) refl w
 
 pub line-of-three : (w : Word) (ns : List ℤ) {a b c : ℤ} → a ≡ getD ns 0 (pos 0) → b ≡ getD ns 1 (pos 0) → c ≡ getD ns 2 (pos 0) → lineOf w (a ∷ b ∷ c ∷ []) ≡ lineOf w ns
 line-of-three w ns p q r = ap₃ (λ (x y z : ℤ). lineOf w (x ∷ y ∷ z ∷ [])) p q r ∙ sym (first-three w ns)

@@ -2,9 +2,10 @@
 -- word and its numbers. Assumes nothing.
 use Prim.Native.Nat.{ℕ, zero, suc}
 use mathlib.Core.Path.{_≡_, refl, sym, ap, _∙_, subst}
-use mathlib.Core.Bool.{Bool, _&&_}
-use mathlib.Core.List.{List, [], _∷_}
+use mathlib.Core.Bool.{Bool, true, _&&_}
+use mathlib.Core.List.{List, [], _∷_, _++_, map}
 use lib.Dec.{T, eqb→eq}
+use lib.IntN.{ℤ}
 use lib.ListN.{getD}
 use Rattle.model.specs.declared.Line.{Line}
 use Rattle.model.specs.declared.Line.the-variants as Lines
@@ -16,38 +17,48 @@ use Rattle.model.specs.Files.{said, lineOf, wordOf}
 use Rattle.model.proofs.Tests.{and-first, and-second}
 
 -- ---- a word is known by its number
-word-at : (w : Word) → getD words (order w) NoWord ≡ w
-word-at In = refl
-word-at Const = refl
-word-at Neg = refl
-word-at Rot = refl
-word-at Add = refl
-word-at Mul = refl
-word-at Out = refl
-word-at Enc = refl
-word-at Rs = refl
-word-at Ms = refl
-word-at Us = refl
-word-at NoWord = refl
+-- what is told of each word, in their order; of no word last
+abbrev pub table : {A : Type 0} → (Word → A) → List A
+table f = map f words ++ (f NoWord ∷ [])
+
+row-at : {A : Type 0} (f : Word → A) (d : A) (w : Word) → getD (table f) (order w) d ≡ f w
+row-at f d In = refl
+row-at f d Const = refl
+row-at f d Neg = refl
+row-at f d Rot = refl
+row-at f d Add = refl
+row-at f d Mul = refl
+row-at f d Out = refl
+row-at f d Enc = refl
+row-at f d Rs = refl
+row-at f d Ms = refl
+row-at f d Us = refl
+row-at f d NoWord = refl
+
+word-at : (w : Word) → getD (table (λ v. v)) (order w) NoWord ≡ w
+word-at w = row-at (λ v. v) NoWord w
 
 pub same-word : (v w : Word) → T (sameWord v w) → v ≡ w
-same-word v w t = sym (word-at v) ∙ ap (λ (n : ℕ). getD words n NoWord) (eqb→eq (order v) (order w) t) ∙ word-at w
+same-word v w t = sym (word-at v) ∙ ap (λ (n : ℕ). getD (table (λ v. v)) n NoWord) (eqb→eq (order v) (order w) t) ∙ word-at w
 
--- ---- a test of every word
-abbrev pub among : (Word → Bool) → List Word → Bool
-among p [] = p NoWord
-among p (w ∷ ws) = p w && among p ws
+-- ---- what is told of every word: where two tables are one, the same is told; a test that is passed throughout its table is passed
+pub each-word : {A : Type 0} (f g : Word → A) → table f ≡ table g → (w : Word) → f w ≡ g w
+each-word f g e w = sym (row-at f (f w) w) ∙ ap (λ l. getD l (order w) (f w)) e ∙ row-at g (f w) w
+
+abbrev pub all : List Bool → Bool
+all [] = true
+all (b ∷ bs) = b && all bs
 
 abbrev pub every : (Word → Bool) → Bool
-every p = among p words
+every p = all (table p)
 
 pub every-word : (p : Word → Bool) → T (every p) → (w : Word) → T (p w)
-every-word p t w = subst (λ (v : Word). T (p v)) (word-at w) (at words (order w) t)
+every-word p t w = subst T (row-at p true w) (at (table p) (order w) t)
   where
-    at : (ws : List Word) (n : ℕ) → T (among p ws) → T (p (getD ws n NoWord))
-    at [] n u = u
-    at (v ∷ vs) zero u = and-first (p v) (among p vs) u
-    at (v ∷ vs) (suc n) u = at vs n (and-second (p v) (among p vs) u)
+    at : (bs : List Bool) (n : ℕ) → T (all bs) → T (getD bs n true)
+    at [] n u = tt
+    at (b ∷ bs) zero u = and-first b (all bs) u
+    at (b ∷ bs) (suc n) u = at bs n (and-second b (all bs) u)
 
 -- ---- a line is known by its word and its numbers
 pub line-said : (x : Line) → lineOf (wordOf x) (said x .numbers) ≡ x
@@ -63,3 +74,9 @@ line-said (Lines.Rs a c) = refl
 line-said (Lines.Ms a c) = refl
 line-said (Lines.Us a b) = refl
 line-said Lines.Free = refl
+
+-- where two functions tell the same of each word's line, whatever its numbers are, they tell the same of every line
+pub each-line : {A : Type 0} (f g : Line → A) → ((ns : List ℤ) → table (λ w. f (lineOf w ns)) ≡ table (λ w. g (lineOf w ns))) → (x : Line) → f x ≡ g x
+each-line f g e x =
+    let ns = said x .numbers in
+    ap f (sym (line-said x)) ∙ each-word (λ w. f (lineOf w ns)) (λ w. g (lineOf w ns)) (e ns) (wordOf x) ∙ ap g (line-said x)

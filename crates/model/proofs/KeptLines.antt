@@ -8,26 +8,16 @@ use mathlib.Core.List.{List, [], _∷_, _++_}
 use mathlib.Core.Option.{some}
 use lib.ListN.{length, getD, getElem?}
 use Rattle.model.specs.declared.Line.{Line}
-use Rattle.model.specs.declared.Line.the-variants.{In, Const, Neg, Rot, Add, Mul, Out, Enc, Rs, Ms, Us, Free}
+use Rattle.model.specs.declared.Line.the-variants.{Free}
 use Rattle.model.specs.Files.{kindOf}
 use Rattle.model.specs.Services.{Fate, kept, madeFrom, fateOf, renamed, renumbered, eraseFrom, keptFrom, erase, keptLines}
 use Rattle.model.proofs.Statements.Erasing.{originsFrom, origins}
+use Rattle.model.proofs.EveryWord.{each-line}
 use Rattle.model.proofs.Lists.{length-snoc, found-after, found-last, found-at}
 
 -- other operands, the same kind
 pub renamed-kind : (f : ℕ → ℕ) (x : Line) → kindOf (renamed f x) ≡ kindOf x
-renamed-kind f In = refl
-renamed-kind f (Const k) = refl
-renamed-kind f (Neg a) = refl
-renamed-kind f (Rot a t) = refl
-renamed-kind f (Add a b) = refl
-renamed-kind f (Mul a b) = refl
-renamed-kind f (Out a) = refl
-renamed-kind f (Enc a s e) = refl
-renamed-kind f (Rs a c) = refl
-renamed-kind f (Ms a c) = refl
-renamed-kind f (Us a b) = refl
-renamed-kind f Free = refl
+renamed-kind f x = each-line (λ y. kindOf (renamed f y)) kindOf (λ ns. refl) x
 
 -- later lines leave the origins of earlier ones
 origins-after : (xs : List Line) (before : List ℕ) (count i : ℕ) {o : ℕ} → getElem? before i ≡ some o → getElem? (originsFrom before count xs) i ≡ some o

@@ -1,14 +1,13 @@
 -- Any line of a circuit that goes on with it: its operands can be brought to where its choice asks, and what is written is the plan's. A law for
 -- each word. Assumes nothing.
-use Prim.Native.Nat.{ℕ, zero, suc, _+_, _-_, _*_, _/_, _≤_, min}
+use Prim.Native.Nat.{ℕ, _+_, _-_, _*_, _/_, _≤_, min}
 use native.Mathlib.Nat.{min-le-right}
 use native.Mathlib.Omega.{arith}
 use mathlib.Core.Path.{_≡_, refl, sym, ap, _∙_, subst}
 use mathlib.Core.Bool.{Bool, true, false, cond}
-use mathlib.Core.List.{List}
+use mathlib.Core.List.{List, [], _∷_}
 use borrow.Author.Needs.{needs}
 use lib.IntN.{ℤ, pos, _-ℤ_}
-use lib.ListN.{length}
 use lib.Signed.{_≤ℤ_}
 use Rattle.ints.specs.Parts.{positive, negative}
 use Rattle.ints.proofs.Linear.{signed, is-positive, positive-sub}
@@ -29,6 +28,9 @@ use Rattle.model.proofs.Chosen.{unlessTooFew-elim}
 use Rattle.model.proofs.Supplies.{few-bits, Valid, ValidBest}
 use Rattle.model.proofs.Supplies as Supplies
 use Rattle.model.proofs.Meets.{Meets, meets-one, meets-sum, meets-times-constant, meets-constant-times, meets-product}
+use Rattle.tables.specs.declared.OperandsOf.{OperandsOf}
+use Rattle.tables.specs.declared.OperandsOf.the-variants.{None, One, Two}
+use Rattle.tables.specs.Operands.{operandsIn}
 use Rattle.conversions.specs.declared.Drafted.{Drafted}
 use Rattle.conversions.specs.declared.Operand.{Operand}
 use Rattle.conversions.specs.Drafts.{Wrote}
@@ -155,7 +157,7 @@ module _ (h : Header) (x : Line) (a b : Operand) (p : Choice) (D : DoneAs h x a 
   never : {P : Type 0} (n : ℕ) → stepOn h x a b ≡ stops n → P
   never n e = stops-goes (sym e ∙ D .goes-on)
 
-  -- ---- its lines, by the number of its operands
+  -- ---- its lines, by the values that it names
   record Single : Type 0 where
     reached : Reaches h a (p .first) (p .level)
     lines-are : (lines : List Line) → withOne h p x a lines ≡ lineOn h p x a b lines
@@ -165,11 +167,11 @@ module _ (h : Header) (x : Line) (a b : Operand) (p : Choice) (D : DoneAs h x a 
     second-reached : Reaches h b (p .second) (p .level)
     lines-are : (lines : List Line) → withTwo h p x a b lines ≡ lineOn h p x a b lines
 
-  abbrev ByCount : ℕ → Type 0
-  ByCount zero = (lines : List Line) → emit lines x ≡ lineOn h p x a b lines
-  ByCount (suc zero) = Single
-  ByCount (suc (suc zero)) = Double
-  ByCount (suc (suc (suc n))) = Unit {0}
+  abbrev ByOperands : List ℕ → Type 0
+  ByOperands [] = (lines : List Line) → emit lines x ≡ lineOn h p x a b lines
+  ByOperands (i ∷ []) = Single
+  ByOperands (i ∷ j ∷ []) = Double
+  ByOperands (i ∷ j ∷ k ∷ names) = Unit {0}
 
   kept : stepOn h x a b ≡ bestMachine h .neg (bestOf a) → Reaches h a (p .first) (p .level)
   kept is =
@@ -197,38 +199,36 @@ module _ (h : Header) (x : Line) (a b : Operand) (p : Choice) (D : DoneAs h x a 
             (rw e (ap (λ (d : Draft). emit (d .lines) (Out (d .number))) (own-supplied h H a (D .first) c lines)));
       }
 
-  by-count : (y : Line) → x ≡ y → ByCount (length (operands y))
+  by-word : (y : Line) → x ≡ y → ByOperands (operands y)
   unfolding stepOn lineOn withOne withTwo
-  by-count In e = λ lines. rw e
-  by-count (Const k) e = λ lines. rw e
-  by-count (Neg i) e = record { reached = kept (neg-step h x a b i e); lines-are = λ lines. rw e }
-  by-count (Rot i t) e = record { reached = kept (rot-step h x a b i t e); lines-are = λ lines. rw e }
-  by-count (Add i j) e =
+  by-word In e = λ lines. rw e
+  by-word (Const k) e = λ lines. rw e
+  by-word (Neg i) e = record { reached = kept (neg-step h x a b i e); lines-are = λ lines. rw e }
+  by-word (Rot i t) e = record { reached = kept (rot-step h x a b i t e); lines-are = λ lines. rw e }
+  by-word (Add i j) e =
       double (meets (bestMachine h .add (bestOf a) (bestOf b)) (add-step h x a b i j e) (bestOf b) (sum-met h H (bestOf a) (bestOf b) valid-first valid-second)) (λ lines. rw e)
-  by-count (Mul i j) e =
+  by-word (Mul i j) e =
       double (meets (bestMachine h .mul (bestOf a) (bestOf b)) (mul-step h x a b i j e) (bestOf b) (product-met h H (bestOf a) (bestOf b) valid-first valid-second)) (λ lines. rw e)
-  by-count (Out i) e = out-single i e (a .ciphertext) refl (sym (out-step h x a b i e) ∙ D .goes-on)
-  by-count (Enc i s l) e = never 1 (rw e)
-  by-count (Rs i n) e = never 1 (rw e)
-  by-count (Ms i n) e = never 1 (rw e)
-  by-count (Us i n) e = never 1 (rw e)
-  by-count Free e = never 4 (rw e)
+  by-word (Out i) e = out-single i e (a .ciphertext) refl (sym (out-step h x a b i e) ∙ D .goes-on)
+  by-word (Enc i s l) e = never 1 (rw e)
+  by-word (Rs i n) e = never 1 (rw e)
+  by-word (Ms i n) e = never 1 (rw e)
+  by-word (Us i n) e = never 1 (rw e)
+  by-word Free e = never 4 (rw e)
 
-  module _ (n : ℕ) (counted : n ≡ length (operands x)) where
-    with-count : (m : ℕ) → n ≡ m → ByCount m
-    with-count m e = subst ByCount (sym counted ∙ e) (by-count x refl)
+  module _ (o : OperandsOf) (named : operandsIn o ≡ operands x) where
+    by-operands : (v : OperandsOf) → o ≡ v → ByOperands (operandsIn v)
+    by-operands v e = subst ByOperands (sym named ∙ ap operandsIn e) (by-word x refl)
 
-    two-left : (n ≡ 0 → ⊥) → (n ≡ 1 → ⊥) → n ≤ 2 → n ≡ 2
-    two-left f g k = omega arith
+    pub one-reach : (i : ℕ) → o ≡ One i → Reaches h a (p .first) (p .level)
+    one-reach i e = by-operands (One i) e .reached
 
-    pub one-reach : n ≡ 1 → Reaches h a (p .first) (p .level)
-    one-reach e = with-count 1 e .reached
+    module _ (i j : ℕ) (e : o ≡ Two i j) where
+      pub first-reach : Reaches h a (p .first) (p .level)
+      first-reach = by-operands (Two i j) e .first-reached
 
-    pub first-reach : (n ≡ 0 → ⊥) → (n ≡ 1 → ⊥) → n ≤ 2 → Reaches h a (p .first) (p .level)
-    first-reach f g k = with-count 2 (two-left f g k) .first-reached
-
-    pub second-reach : (n ≡ 0 → ⊥) → (n ≡ 1 → ⊥) → n ≤ 2 → Reaches h b (p .second) (p .level)
-    second-reach f g k = with-count 2 (two-left f g k) .second-reached
+      pub second-reach : Reaches h b (p .second) (p .level)
+      second-reach = by-operands (Two i j) e .second-reached
 
     module _ (lines : List Line) (count : ℕ) (r : Drafted) (after : List (List ℕ)) where
       abbrev Planned : Type 0
@@ -237,13 +237,13 @@ module _ (h : Header) (x : Line) (a b : Operand) (p : Choice) (D : DoneAs h x a 
       as-chosen : {d : Draft} → d ≡ lineOn h p x a b lines → {most : ℕ} → most ≤ count + 7 → Wrote d most r after → Planned
       as-chosen f more w = record { same = w .same ∙ f; few = omega (arith, w .few); long = w .long }
 
-      pub none-planned : n ≡ 0 → Wrote (emit lines x) (count + 1) r after → Planned
-      none-planned e w = as-chosen (with-count 0 e lines) (omega arith) w
+      pub none-planned : o ≡ None → Wrote (emit lines x) (count + 1) r after → Planned
+      none-planned e w = as-chosen (by-operands None e lines) (omega arith) w
 
-      pub one-planned : n ≡ 1 → Wrote (withOne h p x a lines) (count + 4) r after → Planned
-      one-planned e w = as-chosen (with-count 1 e .lines-are lines) (omega arith) w
+      pub one-planned : (i : ℕ) → o ≡ One i → Wrote (withOne h p x a lines) (count + 4) r after → Planned
+      one-planned i e w = as-chosen (by-operands (One i) e .lines-are lines) (omega arith) w
 
-      pub two-planned : (n ≡ 0 → ⊥) → (n ≡ 1 → ⊥) → n ≤ 2 → Wrote (withTwo h p x a b lines) (count + 7) r after → Planned
-      two-planned f g k w = as-chosen (with-count 2 (two-left f g k) .lines-are lines) (omega arith) w
+      pub two-planned : (i j : ℕ) → o ≡ Two i j → Wrote (withTwo h p x a b lines) (count + 7) r after → Planned
+      two-planned i j e w = as-chosen (by-operands (Two i j) e .lines-are lines) (omega arith) w
 
-pub ruleset count-laws = (needs, one-reach, first-reach, second-reach, none-planned, one-planned, two-planned)
+pub ruleset operand-laws = (needs, one-reach, first-reach, second-reach, none-planned, one-planned, two-planned)

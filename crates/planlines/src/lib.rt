@@ -4,36 +4,14 @@ use conversions::Operand;
 use model::Choice;
 use model::Header;
 use model::Line;
+use tables::OperandsOf;
 use tables::Record;
 ghost use mathlib.Core.Path.{_≡_};
-ghost use Prim.Native.Nat.{_+_, _≤_};
-ghost use lib.ListN.{length};
-ghost use Rattle.model.specs.Files.{operands};
+ghost use Prim.Native.Nat.{_+_};
 ghost use Rattle.tables.specs.Records.{linesHeld};
 ghost use Rattle.conversions.specs.Drafts.{Room, Wrote};
 ghost use Rattle.conversions.specs.Operands.{Reaches};
 ghost use Rattle.planlines.specs.Lines.{withOne, withTwo, lineOn, DoneAs};
-
-// How many values a line names.
-fn operand_count(line: Line) -> u32
-    ensures { λ r. ⌜ r ≡ length (operands line) ⌝ }
-    ensures few { λ r. ⌜ r ≤ 2 ⌝ }
-{
-    match line {
-        Line::In => 0,
-        Line::Const(_) => 0,
-        Line::Neg(_) => 1,
-        Line::Rot(_, _) => 1,
-        Line::Add(_, _) => 2,
-        Line::Mul(_, _) => 2,
-        Line::Out(_) => 1,
-        Line::Enc { .. } => 1,
-        Line::Rs(_, _) => 1,
-        Line::Ms(_, _) => 1,
-        Line::Us(_, _) => 1,
-        Line::Free => 0,
-    }
-}
 
 // ---- a line with one operand, and with two
 fn plan_one(
@@ -94,12 +72,9 @@ pub fn plan_line(
     requires { ⌜ DoneAs header line first second choice ⌝ }
     ensures { λ r. ⌜ Wrote (lineOn header choice line first second (linesHeld (now (schedule .entry)) count)) (count + 7) r (now (schedule .exit)) ⌝ }
 {
-    let operands = operand_count(line);
-    if operands == 0 {
-        return conversions::put(schedule, count, line);
+    match tables::operands_of(line) {
+        OperandsOf::None => conversions::put(schedule, count, line),
+        OperandsOf::One(_) => plan_one(header, schedule, count, line, choice, first),
+        OperandsOf::Two(_, _) => plan_two(header, schedule, count, line, choice, first, second),
     }
-    if operands == 1 {
-        return plan_one(header, schedule, count, line, choice, first);
-    }
-    plan_two(header, schedule, count, line, choice, first, second)
 }

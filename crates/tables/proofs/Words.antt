@@ -2,11 +2,12 @@
 use Prim.Native.Nat.{ℕ, _≤_, _<_}
 use native.Mathlib.Decide.{decLe}
 use native.Mathlib.Omega.{arith}
-use mathlib.Core.Bool.{Bool, true, false, cond, not}
+use mathlib.Core.Bool.{Bool, cond}
 use mathlib.Core.Path.{_≡_, refl, sym, ap, _∙_}
 use mathlib.Core.List.{List, [], _∷_}
 use borrow.Author.Needs.{needs}
-use lib.Dec.{T, ltb}
+use borrow.Author.Tests.{ne-eqb}
+use lib.Dec.{ltb, eqb}
 use lib.IntN.{ℤ, pos}
 use lib.ListN.{length, getD, length-take, List·getD-map, List·getD-eq-default}
 use lib.Seq.{getD-take}
@@ -14,14 +15,14 @@ use Rattle.model.specs.declared.Line.{Line}
 use Rattle.model.specs.declared.Line.the-variants as Lines
 use Rattle.model.specs.declared.Line.the-variants.{Free}
 use Rattle.model.specs.declared.Kind.{Kind}
-use Rattle.model.specs.declared.Kind.the-variants.{Nothing}
+use Rattle.model.specs.declared.Kind.the-variants.{Ciphertext, Constant, Encoded, Nothing}
 use Rattle.model.specs.declared.Word.{Word}
 use Rattle.model.specs.declared.Word.the-variants.{Rot, NoWord}
 use Rattle.model.specs.Words.{entry, words}
 use Rattle.model.specs.Numbering.{sameWord}
 use Rattle.model.specs.Files as Files
 use Rattle.model.specs.Files.{wordOf, kindOf, kindAt, isConstant}
-use Rattle.model.proofs.EveryWord.{every, every-word, same-word}
+use Rattle.model.proofs.EveryWord.{each-word}
 use Rattle.tables.proofs.Amounts.{amount-back}
 use Rattle.tables.specs.Records.{amountFrom, wordNumber, wordFrom, recordWith, recordOf, lineWith, lineFrom, lineOf, linesOf, linesHeld, struckWord, isStruck}
 
@@ -30,7 +31,7 @@ use Rattle.tables.specs.Records.{amountFrom, wordNumber, wordFrom, recor
 pub record-line : (w : Word) (n a b c : ℕ) → n ≡ wordNumber w → lineOf (n ∷ a ∷ b ∷ c ∷ []) ≡ lineWith w a b c
 unfolding lineOf lineFrom
 record-line w n a b c e =
-    ap (λ (v : Word). lineWith v a b c) (ap wordFrom e ∙ same-word (wordFrom (wordNumber w)) w (every-word (λ v. sameWord (wordFrom (wordNumber v)) v) tt w))
+    ap (λ (v : Word). lineWith v a b c) (ap wordFrom e ∙ each-word (λ v. wordFrom (wordNumber v)) (λ v. v) refl w)
 
 module _ (x : Line) (r : List ℕ) where
   pub recorded : (y : Line) → x ≡ y → r ≡ recordOf y → r ≡ recordOf x
@@ -95,7 +96,7 @@ pub ruleset word-laws = (needs, word-line)
 
 -- ---- the kind of a line by its record's first number
 pub line-word : (w : Word) (ns : List ℤ) → wordOf (Files.lineOf w ns) ≡ w
-line-word w ns = same-word (wordOf (Files.lineOf w ns)) w (every-word (λ v. sameWord (wordOf (Files.lineOf v ns)) v) tt w)
+line-word w ns = each-word (λ v. wordOf (Files.lineOf v ns)) (λ v. v) refl w
 
 word-held : (n a b c : ℕ) → wordOf (lineFrom n a b c) ≡ wordFrom n
 unfolding lineFrom
@@ -108,6 +109,20 @@ word-at records i w is =
     is
     ∙ sym (word-held (getD (getD records i []) 0 0) (getD (getD records i []) 1 0) (getD (getD records i []) 2 0) (getD (getD records i []) 3 0))
     ∙ ap wordOf (line-held records i _ refl)
+
+-- the kind by the word's number, as the code tells it: one test over the table
+abbrev kindNumbered : ℕ → Kind
+kindNumbered n = cond (eqb n 0) Nothing (cond (eqb n 2) Constant (cond (eqb n 7) Nothing (cond (eqb n 8) Encoded Ciphertext)))
+
+module _ (w : Word) (n : ℕ) (q : n ≡ wordNumber w) where
+  kind-told : kindNumbered n ≡ entry w .kind
+  kind-told = ap kindNumbered q ∙ each-word (λ v. kindNumbered (wordNumber v)) (λ v. entry v .kind) refl w
+
+  pub kind-numbered : (m : ℕ) (k : Kind) → n ≡ m → kindNumbered m ≡ k → k ≡ entry w .kind
+  kind-numbered m k e is = sym is ∙ ap kindNumbered (sym e) ∙ kind-told
+
+  pub kind-other : (n ≡ 0 → ⊥) → (n ≡ 2 → ⊥) → (n ≡ 7 → ⊥) → (n ≡ 8 → ⊥) → Ciphertext ≡ entry w .kind
+  kind-other n0 n2 n7 n8 = let other : Ciphertext ≡ kindNumbered n = rw (ne-eqb n 0 n0, ne-eqb n 2 n2, ne-eqb n 7 n7, ne-eqb n 8 n8) in other ∙ kind-told
 
 kind-held : (records : List (List ℕ)) (a : ℕ) (w : Word) (k : Kind) → w ≡ wordFrom (getD (getD records a []) 0 0) → k ≡ entry w .kind → k ≡ kindAt (linesOf records) a
 kind-held records a w k is e = e ∙ ap (λ (v : Word). entry v .kind) (word-at records a w is)
@@ -126,24 +141,11 @@ module _ (records : List (List ℕ)) (count : ℕ) (few : count ≤ length recor
   pub kind-there : (w : Word) (k : Kind) → a < count → w ≡ wordFrom (getD (getD records a []) 0 0) → k ≡ entry w .kind → k ≡ kindAt (linesHeld records count) a
   kind-there w k h is e = kind-held records a w k is e ∙ ap kindOf (sym (getD-take count (linesOf records) a Free h))
 
-pub ruleset kind-laws = (needs, kind-past, kind-there, constant-held)
+pub ruleset kind-laws = (needs, kind-numbered, kind-other, kind-past, kind-there, constant-held)
 
--- ---- two tests that say the same of every word
-same-bool : (b c : Bool) → T (cond b c (not c)) → b ≡ c
-same-bool true true t = refl
-same-bool true false t = absurd t
-same-bool false true t = absurd t
-same-bool false false t = refl
-
-abbrev agrees : (Word → Bool) → (Word → Bool) → Word → Bool
-agrees p q w = cond (p w) (q w) (not (q w))
-
-pub every-same : (p q : Word → Bool) → T (every (agrees p q)) → (w : Word) → p w ≡ q w
-every-same p q t w = same-bool (p w) (q w) (every-word (agrees p q) t w)
-
--- the words that erasing strikes have the highest numbers
+-- ---- the words that erasing strikes have the highest numbers
 pub struck-is : (w : Word) (n : ℕ) → n ≡ wordNumber w → ltb 7 n ≡ struckWord w
-struck-is w n e = ap (ltb 7) e ∙ every-same (λ v. ltb 7 (wordNumber v)) struckWord tt w
+struck-is w n e = ap (ltb 7) e ∙ each-word (λ v. ltb 7 (wordNumber v)) struckWord refl w
 
 pub struck-there :
     (records : List (List ℕ)) (i : ℕ) (w : Word) (b : Bool) → w ≡ wordFrom (getD (getD records i []) 0 0) → b ≡ struckWord w →

@@ -1,9 +1,18 @@
 -- The values that a line names, each by itself.
 use Prim.Native.Nat.{ℕ}
+use mathlib.Core.List.{List, [], _∷_}
 use lib.ListN.{getD}
 use Rattle.model.specs.declared.Line.{Line}
 use Rattle.model.specs.declared.Line.the-variants.{In, Const, Neg, Rot, Add, Mul, Out, Enc, Rs, Ms, Us, Free}
 use Rattle.model.specs.Files.{operands}
+use Rattle.tables.specs.declared.OperandsOf.{OperandsOf}
+use Rattle.tables.specs.declared.OperandsOf.the-variants.{None, One, Two}
+
+-- the values that the code has taken out of a line, as the list of those that the line names
+abbrev pub operandsIn : OperandsOf → List ℕ
+operandsIn None = []
+operandsIn (One a) = a ∷ []
+operandsIn (Two a b) = a ∷ b ∷ []
 
 -- 0 where a line names none
 unfoldable pub firstOperand : Line → ℕ

@@ -6,9 +6,9 @@ ghost use mathlib.Core.Path.{_≡_};
 ghost use Prim.Native.Nat.{_≤_, _<_};
 ghost use lib.ListN.{length, getD};
 ghost use Rattle.model.specs.declared.Line.the-variants.{Free};
-ghost use Rattle.tables.specs.Operands.{firstOperand, secondOperand, withOperands};
+ghost use Rattle.tables.specs.Operands.{operandsIn, firstOperand, secondOperand, withOperands};
 ghost use Rattle.model.specs.Words.{entry};
-ghost use Rattle.model.specs.Files.{kindAt, isConstant};
+ghost use Rattle.model.specs.Files.{operands, kindAt, isConstant};
 ghost use Rattle.model.specs.Answers.{sameLine};
 ghost use Rattle.tables.specs.Records.{amountFrom, wordNumber, wordFrom, recordWith, recordOf, lineWith, lineFrom, lineOf, linesOf, linesHeld, struckWord, isStruck};
 
@@ -53,23 +53,16 @@ fn word_from(number: u16) -> Word
     }
 }
 
-// What a line with this word can be used as.
+// What a line with this word can be used as: a ciphertext, but for `const`, `out`, `enc` and no word.
 fn kind_of(word: Word) -> Kind
     ensures { λ r. ⌜ r ≡ entry word .kind ⌝ }
 {
-    match word {
-        Word::In => Kind::Ciphertext,
-        Word::Const => Kind::Constant,
-        Word::Neg => Kind::Ciphertext,
-        Word::Rot => Kind::Ciphertext,
-        Word::Add => Kind::Ciphertext,
-        Word::Mul => Kind::Ciphertext,
-        Word::Out => Kind::Nothing,
-        Word::Enc => Kind::Encoded,
-        Word::Rs => Kind::Ciphertext,
-        Word::Ms => Kind::Ciphertext,
-        Word::Us => Kind::Ciphertext,
-        Word::NoWord => Kind::Nothing,
+    match number_of(word) {
+        2 => Kind::Constant,
+        8 => Kind::Encoded,
+        0 => Kind::Nothing,
+        7 => Kind::Nothing,
+        _ => Kind::Ciphertext,
     }
 }
 
@@ -225,23 +218,40 @@ pub fn same_line(x: Line, y: Line) -> bool
 }
 
 // ---- operands
+// The values that a line names.
+pub enum OperandsOf {
+    None,
+    One(u16),
+    Two(u16, u16),
+}
+
+pub fn operands_of(line: Line) -> OperandsOf
+    ensures { λ r. ⌜ operandsIn r ≡ operands line ⌝ }
+{
+    match line {
+        Line::In => OperandsOf::None,
+        Line::Const(_) => OperandsOf::None,
+        Line::Neg(a) => OperandsOf::One(a),
+        Line::Rot(a, _) => OperandsOf::One(a),
+        Line::Add(a, b) => OperandsOf::Two(a, b),
+        Line::Mul(a, b) => OperandsOf::Two(a, b),
+        Line::Out(a) => OperandsOf::One(a),
+        Line::Enc { of, .. } => OperandsOf::One(of),
+        Line::Rs(a, _) => OperandsOf::One(a),
+        Line::Ms(a, _) => OperandsOf::One(a),
+        Line::Us(a, _) => OperandsOf::One(a),
+        Line::Free => OperandsOf::None,
+    }
+}
+
 // The first value that a line names, 0 where it names none.
 pub fn first_operand(line: Line) -> u16
     ensures { λ r. ⌜ r ≡ firstOperand line ⌝ }
 {
-    match line {
-        Line::In => 0,
-        Line::Const(_) => 0,
-        Line::Neg(a) => a,
-        Line::Rot(a, _) => a,
-        Line::Add(a, _) => a,
-        Line::Mul(a, _) => a,
-        Line::Out(a) => a,
-        Line::Enc { of, .. } => of,
-        Line::Rs(a, _) => a,
-        Line::Ms(a, _) => a,
-        Line::Us(a, _) => a,
-        Line::Free => 0,
+    match operands_of(line) {
+        OperandsOf::None => 0,
+        OperandsOf::One(a) => a,
+        OperandsOf::Two(a, _) => a,
     }
 }
 
@@ -249,19 +259,10 @@ pub fn first_operand(line: Line) -> u16
 pub fn second_operand(line: Line) -> u16
     ensures { λ r. ⌜ r ≡ secondOperand line ⌝ }
 {
-    match line {
-        Line::In => 0,
-        Line::Const(_) => 0,
-        Line::Neg(_) => 0,
-        Line::Rot(_, _) => 0,
-        Line::Add(_, b) => b,
-        Line::Mul(_, b) => b,
-        Line::Out(_) => 0,
-        Line::Enc { .. } => 0,
-        Line::Rs(_, _) => 0,
-        Line::Ms(_, _) => 0,
-        Line::Us(_, _) => 0,
-        Line::Free => 0,
+    match operands_of(line) {
+        OperandsOf::None => 0,
+        OperandsOf::One(_) => 0,
+        OperandsOf::Two(_, b) => b,
     }
 }
 

@@ -22,13 +22,12 @@ use Rattle.model.specs.declared.Word.the-variants.{In, Const, Neg, Rot, Add, Mu
 use Rattle.model.specs.Words.{entry, words, hasWord}
 use Rattle.model.specs.Numbering.{sameWord}
 use Rattle.model.proofs.Tests.{and-first, and-second}
-use Rattle.model.proofs.EveryWord.{every-word, same-word}
+use Rattle.model.proofs.EveryWord.{each-word, every-word, same-word}
 use Rattle.text.specs.Files.{vocabulary}
 use Rattle.text.proofs.WordLaws.{word-of}
 use Rattle.forms.specs.Along.{fieldIn, endsField, isPlain}
 use Rattle.forms.proofs.WordLaws.{field-short}
 use Rattle.tables.specs.Records.{wordNumber}
-use Rattle.tables.proofs.Words.{every-same}
 use Rattle.words.specs.declared.OperandsAsked.{OperandsAsked}
 use Rattle.words.specs.declared.OperandsAsked.the-variants.{NoOperand}
 use Rattle.words.specs.declared.WordAt.{WordAt}
@@ -200,10 +199,10 @@ field-named g t w is has = sym (named-is vocabulary words (fieldIn t) (word-name
 -- ---- what a word's number tells: one test over the table each
 module _ (w : Word) (n : ℕ) (q : n ≡ wordNumber w) where
   pub amount-by : eqb n 4 ≡ sameWord w Rot
-  amount-by = ap (λ (m : ℕ). eqb m 4) q ∙ every-same (λ v. eqb (wordNumber v) 4) (λ v. sameWord v Rot) tt w
+  amount-by = ap (λ (m : ℕ). eqb m 4) q ∙ each-word (λ v. eqb (wordNumber v) 4) (λ v. sameWord v Rot) refl w
 
   kept-test : (not (eqb n 0) && leb n 7) ≡ hasWord Circuit w
-  kept-test = ap (λ (m : ℕ). not (eqb m 0) && leb m 7) q ∙ every-same (λ v. not (eqb (wordNumber v) 0) && leb (wordNumber v) 7) (hasWord Circuit) tt w
+  kept-test = ap (λ (m : ℕ). not (eqb m 0) && leb m 7) q ∙ each-word (λ v. not (eqb (wordNumber v) 0) && leb (wordNumber v) 7) (hasWord Circuit) refl w
 
   pub kept-none : n ≡ 0 → false ≡ hasWord Circuit w
   kept-none e = ap (λ (m : ℕ). not (eqb m 0) && leb m 7) (sym e) ∙ kept-test
@@ -212,7 +211,7 @@ module _ (w : Word) (n : ℕ) (q : n ≡ wordNumber w) where
   kept-few e = ap (λ (b : Bool). not b && leb n 7) (sym (ne-eqb n 0 e)) ∙ kept-test
 
   pub schedule-some : (g : Grammar) → g ≡ Schedule → not (eqb n 0) ≡ hasWord g w
-  schedule-some g e = rw (e, q) (every-same (λ v. not (eqb (wordNumber v) 0)) (hasWord Schedule) tt w)
+  schedule-some g e = rw (e, q) (each-word (λ v. not (eqb (wordNumber v) 0)) (hasWord Schedule) refl w)
 
 pub circuit-kept : (g : Grammar) (w : Word) (r k : Bool) → g ≡ Circuit → k ≡ hasWord Circuit w → r ≡ k → r ≡ hasWord g w
 circuit-kept g w r k e q is = rw e (is ∙ q)

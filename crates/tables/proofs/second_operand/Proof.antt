@@ -1,35 +1,16 @@
--- `tables::second_operand` meets its contract: the word decides whether the line names two values. Assumes nothing.
-use Rattle.tables.specs.Operands.{secondOperand}
-use borrow.Author.Needs.{needs}
+-- `tables::second_operand` meets its contract: the second of the values that the line names. Assumes nothing.
+use Rattle.tables.proofs.Operands.{named-laws}
 use Rattle.tables.proofs.second_operand.Statement.{statement}
 use Rattle.tables.proofs.second_operand.Tie as tie
 
 pub second-operand-spec : {M : Type 1} → statement M
-unfolding secondOperand
 second-operand-spec =
     tie.close
     (tie.spec
-    (λ c. search needs)
-    (λ c. search needs)
-    (λ c. search needs)
-    (λ c. search needs)
-    (λ c. search needs)
-    (λ c. search needs)
-    (λ c. search needs)
-    (λ c. search needs)
-    (λ c. search needs)
-    (λ c. search needs)
-    (λ c. search needs)
-    (λ c. search needs)
-    (λ c. search needs)
-    (λ c. search needs)
-    (λ c. search needs)
-    (λ c. search needs)
-    (λ c. search needs)
-    (λ c. search needs)
-    (λ c. search needs)
-    (λ c. search needs)
-    (λ c. search needs)
-    (λ c. search needs)
-    (λ c. search needs)
-    (λ c. search needs))
+    (λ c κs. search named-laws)
+    (λ c. search named-laws)
+    (λ c. search named-laws)
+    (λ c. search named-laws)
+    (λ c. search named-laws)
+    (λ c. search named-laws)
+    (λ c. search named-laws))
