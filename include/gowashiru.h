@@ -17,14 +17,18 @@ extern "C" {
 #endif
 
 /* The version of this header and of the command; the pkg-config file has it too. */
-#define GOWASHIRU_VERSION "0.1.0"
+#define GOWASHIRU_VERSION "0.2.0"
 
 /* A buffer of so many bytes is enough for every plan, which is proved, and for every erasure, which is a circuit and has at
- * most 3,854. */
+ * most 4,369. */
 #define GOWASHIRU_ENOUGH_BYTES 131072
 
-/* The stack to give a thread. At most 36,296 bytes were measured on x86-64 (check; erase 32,680, plan 31,208, least level
- * 15,784) by tests/host/stack.c, on full files with the longest numbers in them. */
+/* The largest number of a constant; the least is 0. A host that keeps its constants under numbers of its own, say a catalogue's,
+ * holds one in a uint32_t. A larger one is refused with 11, and one of more than 11 digits with 1. */
+#define GOWASHIRU_MOST_CONSTANT 4294967295u
+
+/* The stack to give a thread. At most 36,328 bytes were measured on x86-64 (check; erase 32,832, plan 31,376, least level
+ * 15,832) by tests/host/stack.c, on full files with the longest numbers in them. */
 #define GOWASHIRU_STACK_BYTES 131072
 
 /* What the number of a reply says. The numbers do not change. */

@@ -200,7 +200,21 @@ plan_says 5 4 "$h"'in\nconst\t5\nmul\t1\t1\n' '`mul` takes two ciphertexts, or a
 plan_says 6 4 'circuit\t60\t20\t1\nin\nmul\t0\t0\nmul\t1\t1\n' 'too few levels (refusal 6): mul 1 1' 'This circuit fits from L = 2 on'
 plan_says 6 3 'circuit\t1\t60\t60\nin\nmul\t0\t0\n' 'fits at no L from 1 to 60' 'line 3'
 plan_says 11 3 "$h"'in\nrot\t0\t-32768\n' 'number outside its range' 'T = -32768' 'from -32767 to 32767'
-plan_says 11 2 "$h"'const\t65536\n' 'K = 65536' 'from 0 to 65535'
+plan_says 11 2 "$h"'const\t4294967296\n' 'K = 4294967296' 'from 0 to 4294967295'
+plan_says 11 2 "$h"'const\t99999999999\n' 'K = 99999999999' 'from 0 to 4294967295'
+plan_says 1 2 "$h"'const\t100000000000\n' '100000000000 is no number: it has 12 digits' 'at most 11 bytes' 'the constant, 0 to 4294967295'
+plan_says 1 2 "$h"'const\t4294967295.0\n' '4294967295.0 is no number: digits' 'no point'
+# In the first field a number that is too large does not hide a second field that is none; a range comes before an operand.
+plan_says 1 3 "$h"'in\nrot\t99999999999\t100000000000\n' '100000000000 is no number'
+plan_says 11 3 "$h"'in\nrot\t4294967296\t32768\n' 'T = 32768'
+# Numbers that 16 or 32 bits would take for small ones.
+plan_says 11 3 "$h"'in\nrot\t0\t65537\n' 'T = 65537'
+plan_says 11 3 "$h"'in\nrot\t0\t4294967297\n' 'T = 4294967297'
+plan_says 11 3 "$h"'in\nrot\t0\t-4294967295\n' 'T = -4294967295'
+plan_says 4 3 "$h"'in\nneg\t65536\n' 'A = 65536: this line is value 1'
+plan_says 4 3 "$h"'in\nmul\t0\t4294967296\n' 'B = 4294967296: this line is value 1'
+plan_says 2 1 'circuit\t65596\t4294967316\t2\n' 'F = 65596' 'W = 4294967316'
+plan_says 5 3 "$h"'const\t4294967295\nneg\t0\n' 'A = 0 is a constant, line 2: const 4294967295'
 printf 'circuit\t1\t60\t60\nin\nmul\t0\t0\n' >"$c"
 refused 6 "$c" 3 "$command" least-level "$c"
 says 'fits at no L from 1 to 60'
@@ -229,6 +243,12 @@ picture_says 10 4 "$h"'in\nus\t0\t59\nrs\t1\t1\n' 'scale below the waterline' 'V
 picture_says 10 4 "$h"'in\nus\t0\t100\nrs\t1\t2\n' 'The lowest level is 1: give up fewer levels'
 picture_says 10 3 "$h"'const\t1\nenc\t0\t19\t1\n' 'Encode at a scale S of at least W.'
 picture_says 11 3 "$h"'const\t1\nenc\t0\t20\t3\n' 'E = 3' "from 1 to 2, the header's L"
+picture_says 11 2 "$h"'const\t4294967296\n' 'K = 4294967296' 'from 0 to 4294967295'
+picture_says 1 2 "$h"'const\t100000000000\n' '100000000000 is no number: it has 12 digits'
+picture_says 11 3 "$h"'const\t1\nenc\t0\t4294967316\t65537\n' 'S = 4294967316' 'E = 65537'
+picture_says 11 3 "$h"'in\nrs\t0\t4294967297\n' 'C = 4294967297' 'from 1 to 60'
+picture_says 10 3 "$h"'const\t4294967295\nenc\t0\t19\t1\n' 'This line would have scale 19 and level 1' 'Encode at a scale S of at least W.'
+picture_says 8 6 "$h"'const\t4294967295\nin\nmul\t1\t1\nenc\t0\t20\t2\nadd\t2\t3\n' 'Value 3 is an encoded constant: encode it at scale S = 40'
 lines 1793 'in
 ' | cat <(printf "$h") - >"$s"
 printf 'circuit\t60\t20\t2\nin\n' >"$c"
@@ -245,6 +265,45 @@ check_says 12 "$c" 3 "$h"'in\n' "schedule\t60\t20\t2\n$(lines 257 'in\n')" 'keep
 check_says 1 "$c" 1 'schedule\t60\t20\t2\n' 'circuit\t60\t20\t2\n' 'a circuit is wanted here'
 check_says 1 "$s" 2 "$h" 'schedule\t60\t20\t2\nin 0\n' 'A space stands'
 check_says 8 "$s" 4 "$h"'in\nadd\t0\t0\n' 'schedule\t60\t20\t2\nin\nus\t0\t5\nadd\t0\t1\n' 'Raise value 0 by 5 bits'
+check_says 12 "$c" 2 "$h"'const\t4294967295\n' 'schedule\t60\t20\t2\nconst\t65535\n' ': const 4294967295' "$s:2: erases to: const 65535"
+check_says 12 "$c" 2 "$h"'const\t0\n' 'schedule\t60\t20\t2\nconst\t65536\n' ': const 0' "$s:2: erases to: const 65536"
+check_says 11 "$s" 2 "$h"'const\t0\n' 'schedule\t60\t20\t2\nconst\t4294967296\n' 'K = 4294967296'
+
+# ---- Constant numbers: every service gives them back as they are. A circuit and its plan are formats of printf.
+
+goes_through() { # LEAST_LEVEL CIRCUIT PLAN
+    printf "$2" >"$c"
+    printf "$3" >"$s"
+    try 0 "$command" plan "$c"
+    prints "$s"
+    try 0 "$command" check "$c" "$s"
+    prints_line passed
+    try 0 "$command" erase "$s"
+    prints "$c"
+    try 0 "$command" least-level "$c"
+    prints_line "$1"
+    try_picture "$s"
+}
+
+constants='in\nconst\t0\nconst\t65535\nconst\t65536\nconst\t4294967295\n'
+goes_through 1 "$h$constants"'mul\t0\t4\nadd\t3\t5\nout\t6\n' \
+    'schedule\t60\t20\t2\n'"$constants"'enc\t4\t20\t2\nmul\t0\t5\nenc\t3\t40\t2\nadd\t7\t6\nout\t8\n'
+for shown in 0 65535 65536 4294967295; do
+    grep -q ">$shown</text>" "$room/out" || fail "the picture does not show constant $shown"
+done
+# The longest circuit and the longest schedule that read.
+constants="$(lines 256 'const\t4294967295\n')"
+goes_through 1 'circuit\t60\t60\t60\n'"$constants" 'schedule\t60\t60\t60\n'"$constants"
+cp "$c" "$room/longest.circuit"
+cp "$s" "$room/longest.schedule"
+[ "$(wc -c <"$room/longest.circuit")" -eq 4369 ] || fail "the longest circuit has not 4,369 bytes"
+cat "$room/longest.circuit" - <<<"const	4294967295" >"$room/longer.circuit"
+refused 3 "$room/longer.circuit" 258 "$command" plan "$room/longer.circuit"
+constants="$(lines 1792 'const\t4294967295\n')"
+printf 'schedule\t60\t60\t60\n'"$constants" >"$s"
+[ "$(wc -c <"$s")" -eq 30482 ] || fail "the longest schedule has not 30,482 bytes"
+refused 12 "$room/longest.circuit" 258 "$command" check "$room/longest.circuit" "$s"
+says 'keeps more lines than a circuit may have'
 
 # ---- Reading
 
@@ -351,8 +410,9 @@ for name in plan check erase least-level picture; do
     try 0 "$command" "$name" --help
     grep -q "^usage: gowashiru $name " "$room/out" || fail "no usage: $tried"
 done
+version="$(sed -n 's/^.define GOWASHIRU_VERSION "\(.*\)"/\1/p' include/gowashiru.h)"
 try 0 "$command" --version
-prints_line "gowashiru $(sed -n 's/^.define GOWASHIRU_VERSION "\(.*\)"/\1/p' include/gowashiru.h)"
+prints_line "gowashiru $version"
 try 0 ./gowashiru plan "$good"
 prints examples/listing.plan
 says_nothing
@@ -364,6 +424,7 @@ prints examples/listing.plan
 try 0 make --silent install DESTDIR="$room/installed" PREFIX=/opt
 try 0 "$room/installed/opt/bin/gowashiru" plan "$good"
 prints examples/listing.plan
+grep -qx "Version: $version" "$room/installed/opt/lib/pkgconfig/gowashiru.pc" || fail "another version for pkg-config"
 [ -s "$room/installed/opt/share/man/man1/gowashiru.1" ] || fail "no manual page"
 [ -s "$room/installed/opt/share/doc/gowashiru/FORMAT.md" ] || fail "no page on the files"
 sed "s|\.\./include/||" examples/host.c >"$room/host.c"
@@ -383,6 +444,14 @@ prints examples/listing.plan
 says_nothing
 try 1 ./plan.sh <examples/power_16.circuit
 prints examples/power_16.plan
+try 0 ./plan.sh <examples/wavetables.circuit
+prints examples/wavetables.plan
+try 0 ./plan.sh <"$room/longest.circuit"
+prints "$room/longest.schedule"
+try 1 ./plan.sh <"$room/longer.circuit"
+prints <(printf 'refused\t3\t258\n')
+try 1 ./plan.sh < <(printf 'circuit\t60\t20\t1\nconst\t4294967296\n')
+prints <(printf 'refused\t11\t2\n')
 try 1 ./plan.sh </dev/null
 prints <(printf 'refused\t1\t1\n')
 try 1 ./plan.sh </dev/zero
@@ -465,6 +534,6 @@ try 2 env PATH="$room/bin:$bin_without_rt" "$copy/plan.sh" <"$good"
 prints_nothing
 says 'ints is not proved' 'plan cannot be built' 'target/build.log says why'
 
-expected=207
+expected=255
 [ "$count" -eq "$expected" ] || fail "$count cases, not $expected. If it is meant, store the number and say why in the commit."
 echo "command: $count cases as they should be"

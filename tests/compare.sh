@@ -1,6 +1,6 @@
 #!/usr/bin/env bash
-# Compares the archive, the program and the yardstick in C with the Rust version that was written from document 01 alone, and makes each call of the
-# benchmark a few times.
+# Compares the archive, the program and the yardstick in C with the Rust version that was written from documents 01 and 02 alone, and makes each call
+# of the benchmark a few times.
 set -euo pipefail
 cd "$(dirname "${BASH_SOURCE[0]}")/.."
 export GOWASHIRU_LIB="$PWD/target/staticlib"

@@ -4,7 +4,7 @@
 # `c` is a program and `prints` its output; a block marked `console` is not run. The pages' pictures are drawn anew. The archive is built before.
 set -euo pipefail
 cd "$(dirname "${BASH_SOURCE[0]}")/.."
-replies_stored=42
+replies_stored=47
 folder=target/tests/format
 rm -rf "$folder"
 mkdir -p "$folder"

@@ -1,7 +1,7 @@
 /*
- * The four services in plain C, after document 01 and the Rust version: a yardstick for the time of the proved archive, and no independent
- * witness. One pass over the bytes, nothing cleared, no heap. Its replies are compared with the archive's wherever that is tested or timed;
- * nothing is proved of it.
+ * The four services in plain C, after documents 01 and 02 and the Rust version: a yardstick for the time of the proved archive, and no
+ * independent witness. One pass over the bytes, nothing cleared, no heap. Its replies are compared with the archive's wherever that is
+ * tested or timed; nothing is proved of it.
  */
 #include "../include/gowashiru.h"
 #include <stdbool.h>
@@ -20,7 +20,7 @@ enum {
     KEPT_LINES = 256,
     FIELD_BYTES = 11,
     TOP_LEVELS = 60,
-    /* The longest header has 18 bytes, the longest line 17: an enc. A word is written as 5 bytes, of which only its own count. */
+    /* The longest header has 18 bytes, the longest line 17: an enc or a const. A word is written as 5 bytes, of which only its own count. */
     TEXT_BYTES = 18 + 17 * SCHEDULE_LINES + 3
 };
 
@@ -29,7 +29,8 @@ enum word { IN, CONST, NEG, ROT, ADD, MUL, OUT, ENC, RS, MS, US, NO_WORD };
 enum kind { CIPHERTEXT, CONSTANT, ENCODED, UNUSABLE };
 enum reading { CIRCUIT, SCHEDULE, SCHEDULE_TO_ERASE };
 
-/* A line: operands and numbers in the order written, 0 where there is none. A rotation is held in two's complement. */
+/* A line: operands and numbers in the order written, 0 where there is none. A rotation is held in two's complement, a constant number in two
+ * halves, the lower first: so every byte of a record counts, and two records are compared as bytes. */
 struct line {
     uint8_t word, kind;
     uint16_t first, second, third;
@@ -148,8 +149,8 @@ static inline uint32_t read_constant(const uint8_t **place, struct line *line) {
     uint64_t number;
     if (!read_number(place, &number) || !read_end(place))
         return 1;
-    *line = (struct line){CONST, CONSTANT, (uint16_t)number, 0, 0};
-    return number > 65535 ? 11 : 0;
+    *line = (struct line){CONST, CONSTANT, (uint16_t)number, (uint16_t)(number >> 16), 0};
+    return number > UINT32_MAX ? 11 : 0;
 }
 
 /* neg, out */
@@ -275,6 +276,7 @@ FOR_EACH_KIND reply read_file(const uint8_t *bytes, size_t length, enum reading 
 
 /* Writing. */
 
+/* A number of at most five digits. */
 static inline uint8_t *put_digits(uint8_t *at, uint32_t number) {
     uint32_t digits = number < 10 ? 1 : number < 100 ? 2 : number < 1000 ? 3 : number < 10000 ? 4 : 5;
     for (uint32_t i = digits; i-- > 0; number /= 10)
@@ -285,6 +287,17 @@ static inline uint8_t *put_digits(uint8_t *at, uint32_t number) {
 static inline uint8_t *put_number(uint8_t *at, uint32_t number) {
     *at++ = '\t';
     return put_digits(at, number);
+}
+
+/* A constant number: at most five digits, or at most five and then the last five with their zeros. */
+static inline uint8_t *put_constant(uint8_t *at, uint32_t number) {
+    if (number < 100000)
+        return put_number(at, number);
+    at = put_number(at, number / 100000);
+    number %= 100000;
+    for (uint32_t i = 5; i-- > 0; number /= 10)
+        at[i] = (uint8_t)('0' + number % 10);
+    return at + 5;
 }
 
 static inline uint8_t *put_rotation(uint8_t *at, int32_t rotation) {
@@ -318,7 +331,7 @@ static inline uint8_t *put_kept(uint8_t *at, const struct line *line, uint32_t a
     case IN:
         break;
     case CONST:
-        at = put_number(at, line->first);
+        at = put_constant(at, line->first | (uint32_t)line->second << 16);
         break;
     case ROT:
         at = put_number(at, a);

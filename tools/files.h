@@ -6,7 +6,7 @@
 #include <stddef.h>
 #include <stdint.h>
 
-/* A good circuit has at most 3,854 bytes and a good schedule at most 30,482, and no line of either form more than 45. So a longer
+/* A good circuit has at most 4,369 bytes and a good schedule at most 30,482, and no line of either form more than 45. So a longer
  * input is refused by what is read here, at the same line and for the same reason, and an endless input ends. */
 enum { READ_BYTES = 65536 };
 

@@ -1,4 +1,6 @@
 #include "form.h"
+
+#include "../include/gowashiru.h"
 #include "show.h"
 
 #include <stdio.h>
@@ -65,6 +67,14 @@ static bool tell_length(const struct file *file, struct piece line) {
     return true;
 }
 
+/* A number but for its length: digits alone, more than a field has. */
+static bool is_too_long(struct piece field) {
+    size_t digits = 0;
+    while (digits < field.length && field.bytes[digits] >= '0' && field.bytes[digits] <= '9')
+        digits++;
+    return digits == field.length && digits > FIELD_BYTES && field.bytes[0] != '0';
+}
+
 static void tell_number(struct piece field) {
     fputs("  ", stderr);
     if (field.length == 0) {
@@ -72,6 +82,10 @@ static void tell_number(struct piece field) {
         return;
     }
     show_bytes(field);
+    if (is_too_long(field)) {
+        fprintf(stderr, " is no number: it has %zu digits, and a number field has at most %d bytes.\n", field.length, FIELD_BYTES);
+        return;
+    }
     fputs(" is no number: digits, at most 11 bytes, no point, no leading zero, no plus, and a minus only before the T of rot, not before 0.\n", stderr);
 }
 
@@ -128,7 +142,7 @@ static void tell_record(const struct file *file, struct piece line) {
     else
         tell_fields(line, word->form, word->count, word->count == 2 && word->fields[1] == ROTATION);
     if (word != NULL && word->count == 1 && word->fields[0] == CONSTANT && field_count(line) == 2)
-        fputs("  K is the number under which the host keeps the constant, and not its value.\n", stderr);
+        fprintf(stderr, "  K is the number under which the host keeps the constant, 0 to %u, and not its value.\n", GOWASHIRU_MOST_CONSTANT);
 }
 
 /* Bytes that stand in no file of the form, each told. */

@@ -2,8 +2,6 @@
 
 #include <string.h>
 
-enum { FIELD_BYTES = 11 };
-
 const struct word known_words[] = {
     {"in", "in", true, 0, {0}},
     {"const", "const K", true, 1, {CONSTANT}},

@@ -14,7 +14,7 @@ struct piece {
 
 enum field { OPERAND, CONSTANT, ROTATION, SCALE, LEVEL, COUNT };
 
-enum { MOST_FIELDS = 3, SCHEDULE_LINES = 1792, CIRCUIT_LINES = 256 };
+enum { FIELD_BYTES = 11, MOST_FIELDS = 3, SCHEDULE_LINES = 1792, CIRCUIT_LINES = 256 };
 
 struct word {
     const char *name;
@@ -52,7 +52,7 @@ bool has_byte(struct piece piece, uint8_t byte);
 /* NULL where it is no word of either file. */
 const struct word *word_of(struct piece field);
 
-/* A number as both files write it: at most 11 bytes, no plus, no leading zero, a minus only where it may stand and not before 0. */
+/* A number as both files write it: at most FIELD_BYTES, no plus, no leading zero, a minus only where it may stand and not before 0. */
 bool number_of(struct piece field, bool may_be_negative, int64_t *number);
 
 /* False where the line is not of the form. */

@@ -1,5 +1,6 @@
 #include "operands.h"
 
+#include "../include/gowashiru.h"
 #include "show.h"
 
 #include <inttypes.h>
@@ -17,7 +18,11 @@ struct range {
 
 static struct range range_of(enum field field, int64_t top_level) {
     const struct range ranges[] = {
-        [CONSTANT] = {0, 65535}, [ROTATION] = {-32767, 32767}, [SCALE] = {1, 3600}, [LEVEL] = {1, top_level}, [COUNT] = {1, 60},
+        [CONSTANT] = {0, GOWASHIRU_MOST_CONSTANT},
+        [ROTATION] = {-32767, 32767},
+        [SCALE] = {1, 3600},
+        [LEVEL] = {1, top_level},
+        [COUNT] = {1, 60},
     };
     return ranges[field];
 }

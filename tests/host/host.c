@@ -530,6 +530,61 @@ static void try_long_circuits(void)
         die("plan or least level of %s: not refused with 6", deep->name);
 }
 
+/* A small circuit with this constant number, or its plan. */
+static const struct input *with_constant(const char *number, bool is_plan)
+{
+    char name[64];
+    put(is_plan ? "schedule\t60\t20\t2\nin\nconst\t%s\nenc\t1\t20\t2\nmul\t0\t2\nout\t3\n"
+                : "circuit\t60\t20\t2\nin\nconst\t%s\nmul\t0\t1\nout\t2\n",
+        number);
+    snprintf(name, sizeof name, "constant %s.%s", number, is_plan ? "schedule" : "circuit");
+    return take(name);
+}
+
+/* Constant numbers from end to end, and 256 of the longest: copied by plan, passed by check and given back by erase. */
+static void try_constants(void)
+{
+    static const char *const numbers[] = {"0", "65535", "65536", "65543", "4294967294", "4294967295"};
+    for (size_t i = 0; i < sizeof numbers / sizeof numbers[0]; i++) {
+        const struct input *circuit = with_constant(numbers[i], false), *due = with_constant(numbers[i], true);
+        const struct job *plan = add_plan(circuit, ENOUGH);
+        expect(plan, 0, 0, 0);
+        if (plan->reply.length != due->length || memcmp(plan->result, due->bytes, due->length))
+            fail(plan, "is not %s", due->name);
+        expect(add_least(circuit), 0, 0, 0);
+        try_rooms(plan);
+        close_circle(plan);
+    }
+    /* The same modulo two to the 16, and yet another constant. */
+    expect(add_check(find("constant 65535.circuit"), find("constant 4294967295.schedule")), 12, 1, 3);
+    expect(add_check(find("constant 4294967295.circuit"), find("constant 65535.schedule")), 12, 1, 3);
+
+    put("circuit\t60\t60\t60\n");
+    for (int value = 0; value < 256; value++)
+        put("const\t4294967295\n");
+    const struct input *longest = take("256 constants.circuit");
+    const struct job *plan = add_plan(longest, ENOUGH);
+    expect(plan, 0, 0, 0);
+    try_rooms(plan);
+    close_circle(plan);
+}
+
+/* Constant numbers that are too large, or too long for a field: refused by every call, and `run` sees that nothing was written. */
+static void try_large_constants(void)
+{
+    static const char *const numbers[] = {"4294967296", "4294967303", "99999999999", "100000000000"};
+    const struct input *good = find("constant 65535.circuit");
+    for (size_t i = 0; i < sizeof numbers / sizeof numbers[0]; i++) {
+        const struct input *circuit = with_constant(numbers[i], false), *schedule = with_constant(numbers[i], true);
+        uint32_t due = strlen(numbers[i]) > 11 ? 1 : 11;
+        expect(add_plan(circuit, ENOUGH), due, 1, 3);
+        expect(add_least(circuit), due, 1, 3);
+        expect(add_check(circuit, schedule), due, 1, 3);
+        expect(add_check(good, schedule), due, 2, 3);
+        expect(add_erase(schedule, ENOUGH), due, 1, 3);
+    }
+}
+
 /* Schedules of 1,792 lines and one more, and one that keeps 257 lines. */
 static void try_long_schedules(void)
 {
@@ -766,6 +821,8 @@ int main(int count, char **words)
     int schedules = try_all(folder, ".schedule", try_schedule);
     try_long_circuits();
     try_long_schedules();
+    try_constants();
+    try_large_constants();
     try_null();
     whole_count = job_count;
     try_damaged("listing.circuit", NULL);

@@ -13,7 +13,7 @@
 #include <string.h>
 #include <ucontext.h>
 
-enum { FILL = 0xA5, MOST_INPUTS = 16, SERVICES = 5 };
+enum { FILL = 0xA5, MOST_INPUTS = 24, SERVICES = 5 };
 
 enum service { NOTHING, PLAN, CHECK, ERASE, LEAST };
 
@@ -104,11 +104,35 @@ static void make_schedule(const char *last)
     take();
 }
 
+/* Full files of the longest constant numbers: each used once, alone, and with their encodings. */
+static void make_constants(void)
+{
+    put("circuit\t60\t20\t60\nin\n");
+    for (int value = 1; value < 255; value += 2)
+        put("const\t4294967295\nmul\t%d\t%d\n", value - 1, value);
+    put("out\t254\n");
+    take();
+    put("circuit\t60\t60\t60\n");
+    for (int value = 0; value < 256; value++)
+        put("const\t4294967295\n");
+    take();
+    put("schedule\t60\t60\t60\n");
+    for (int value = 0; value < 1792; value++)
+        put("const\t4294967295\n");
+    take();
+    put("schedule\t60\t20\t60\n");
+    for (int value = 0; value < 1792; value++)
+        put(value % 7 ? "enc\t%d\t3600\t60\n" : "const\t4294967295\n", value / 7 * 7);
+    take();
+}
+
 static void make_inputs(void)
 {
     make_circuit("out\t254\n");
     make_circuit("rot\t99999999999\t-9999999999\n");
     make_circuit("mul\t99999999999\t99999999999\n");
+    make_circuit("const\t4294967295\n");
+    make_circuit("const\t99999999999\n");
     put("circuit\t60\t20\t60\nin\n");
     for (int value = 1; value < 256; value++)
         put("neg\t%d\n", value - 1);
@@ -118,6 +142,9 @@ static void make_inputs(void)
     make_schedule("us\t1790\t1\n");
     make_schedule("enc\t99999999999\t99999999999\t99999999999\n");
     make_schedule("rot\t99999999999\t-9999999999\n");
+    make_schedule("const\t4294967295\n");
+    make_schedule("const\t99999999999\n");
+    make_constants();
     put("schedule\t99999999999\t99999999999\t99999999999\n");
     take();
     /* The plan of the first circuit, its longest schedule with all kinds of conversions. */

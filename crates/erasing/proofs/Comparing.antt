@@ -22,15 +22,16 @@ use Rattle.model.specs.Services.{erase}
 use Rattle.model.specs.Answers.{sameLine, sameHeader, compared, rulesAnswer, check}
 use Rattle.model.proofs.Tests.{below-or-not}
 use Rattle.text.specs.Tables.{TableFormed, fileOf}
-use Rattle.tables.specs.Records.{linesOf, linesHeld, held}
+use Rattle.tables.specs.Records.{lineOf, linesOf, linesHeld, held}
+use Rattle.tables.proofs.Words.{record-held}
 use Rattle.tables.proofs.HeldLines.{formed-few, formed-long, records-long, next-line, no-line}
 use Rattle.erasing.specs.declared.Compared.{Compared}
 use Rattle.erasing.specs.declared.Compared.the-variants.{Differs}
 use Rattle.erasing.specs.Comparing.{afterCompared, beginWith}
 use Rattle.erasing.specs.declared.Erased.{Erased}
 use Rattle.erasing.specs.declared.Erased.the-variants.{Kept, Struck}
-use Rattle.erasing.specs.Lines.{erasedBy}
-use Rattle.erasing.proofs.Walking.{Walking, restOf, walk-start, none-left, place-fits, line-there, first-small, second-small, walk-on, rest-kept, rest-struck}
+use Rattle.erasing.specs.Lines.{erasedTo, erasedBy}
+use Rattle.erasing.proofs.Walking.{Walking, restOf, walk-start, none-left, place-fits, line-there, word-known, first-small, second-small, walk-on, rest-kept, rest-struck}
 
 -- ---- a circuit's next line
 module _ (circuit : List (List ℕ)) (size at : ℕ) (long : length circuit ≡ 1792) (few : size ≤ 1792) where
@@ -38,8 +39,8 @@ module _ (circuit : List (List ℕ)) (size at : ℕ) (long : length circuit ≡ 
   circuit-ends x l = rw (no-line (linesOf circuit) size (records-long circuit long) few at l)
 
   pub circuit-goes-on :
-      (x y : Line) (b : Bool) → at < size → y ≡ getD (linesOf circuit) at Free → b ≡ sameLine y x → b ≡ beginWith (drop at (linesHeld circuit size)) x
-  circuit-goes-on x y b l is told = rw (next-line (linesOf circuit) size (records-long circuit long) few at l, ← is) told
+      (x : Line) (b : Bool) → at < size → b ≡ sameLine (lineOf (getD circuit at [])) x → b ≡ beginWith (drop at (linesHeld circuit size)) x
+  circuit-goes-on x b l told = rw (next-line (linesOf circuit) size (records-long circuit long) few at l, ← record-held circuit at) told
 
 pub ruleset next-laws = (needs, circuit-goes-on)
 
@@ -81,7 +82,7 @@ module _ (circuit : List (List ℕ)) (size : ℕ) (schedule : List (List ℕ)) (
       }
 
   module _ (origins : List ℕ) (at i : ℕ) (c : Comparing origins at i) where
-    module _ (inside : i < count) (e : Erased) (told : e ≡ erasedBy origins (getD (linesOf schedule) i Free)) where
+    module _ (inside : i < count) (e : Erased) (told : erasedTo e ≡ erasedBy origins (getD (linesOf schedule) i Free)) where
       -- a line that is struck
       pub struck-passed :
           (o : ℕ) → e ≡ Struck o → (origins′ : List ℕ) (at′ : ℕ) → origins′ ≡ set origins i o → at′ ≡ at → Comparing origins′ at′ (i + 1)
@@ -97,15 +98,17 @@ module _ (circuit : List (List ℕ)) (size : ℕ) (schedule : List (List ℕ)) (
           })
 
       -- a line that stays
-      module _ (y : Line) (is : e ≡ Kept y) (r : Bool) (tested : r ≡ beginWith (drop at (linesHeld circuit size)) y) where
+      module _
+          (n a b d : ℕ) (is : e ≡ Kept n a b d) (r : Bool)
+          (tested : r ≡ beginWith (drop at (linesHeld circuit size)) (lineOf (n ∷ a ∷ b ∷ d ∷ []))) where
         abbrev onward : List Line
         onward = restOf schedule count (set origins i at) (at + 1) (i + 1)
 
         next : (rules : Answer) → cond r (compared (suc at) (drop 1 (drop at (linesHeld circuit size))) onward rules) (Refused 12 (placeOf at)) ≡ lineVerdict rules
         next rules =
             rw tested
-            (sym (compared-next at (drop at (linesHeld circuit size)) onward y rules)
-            ∙ ap (λ (l : List Line). ahead at l rules) (sym (rest-kept schedule count origins at i (c .walk) inside e told y is))
+            (sym (compared-next at (drop at (linesHeld circuit size)) onward (lineOf (n ∷ a ∷ b ∷ d ∷ [])) rules)
+            ∙ ap (λ (l : List Line). ahead at l rules) (sym (rest-kept schedule count origins at i (c .walk) inside e told n a b d is))
             ∙ c .left rules)
 
         pub line-differs : r ≡ false → (answer : Compared) → answer ≡ Differs (placeOf at) → (rules : Answer) → afterCompared answer rules ≡ lineVerdict rules
@@ -113,12 +116,15 @@ module _ (circuit : List (List ℕ)) (size : ℕ) (schedule : List (List ℕ)) (
 
         -- then the circuit has a line there
         inside-circuit : r ≡ true → at < size
-        inside-circuit z = ⊎-elim (λ l. l) (λ l. absurd (true≢false (sym z ∙ tested ∙ sym (circuit-ends circuit size at (c .long) (c .few) y l)))) (below-or-not at size)
+        inside-circuit z =
+            ⊎-elim (λ l. l)
+            (λ l. absurd (true≢false (sym z ∙ tested ∙ sym (circuit-ends circuit size at (c .long) (c .few) (lineOf (n ∷ a ∷ b ∷ d ∷ [])) l))))
+            (below-or-not at size)
 
         pub line-agrees :
             r ≡ true → (origins′ : List ℕ) (at′ : ℕ) → origins′ ≡ set origins i at → at′ ≡ at + 1 → Comparing origins′ at′ (i + 1)
-        line-agrees z origins′ at′ q n =
-            rw (q, n)
+        line-agrees z origins′ at′ q k =
+            rw (q, k)
             (record {
               walk = walk-on schedule count origins at i (c .walk) inside at (at + 1) (omega (arith, c .walk .fewer));
               long = c .long;
@@ -160,6 +166,7 @@ pub ruleset compare-laws = (
   not-false,
   place-fits,
   line-there,
+  word-known,
   first-small,
   second-small,
   formed-few,

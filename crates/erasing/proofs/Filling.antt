@@ -2,7 +2,7 @@
 use Prim.Native.Nat.{ℕ, _+_, _≤_, _<_}
 use native.Mathlib.Omega.{arith}
 use mathlib.Core.Path.{_≡_, refl, sym, ap, _∙_}
-use mathlib.Core.List.{List, _++_, append-assoc, append-nil}
+use mathlib.Core.List.{List, [], _∷_, _++_, append-assoc, append-nil}
 use borrow.Author.Needs.{needs}
 use lib.ListN.{length, getD, set, replicate, length-set}
 use Rattle.model.specs.declared.Line.{Line}
@@ -13,8 +13,8 @@ use Rattle.tables.proofs.Records.{free-long}
 use Rattle.tables.proofs.HeldLines.{stored-lines}
 use Rattle.erasing.specs.declared.Erased.{Erased}
 use Rattle.erasing.specs.declared.Erased.the-variants.{Kept, Struck}
-use Rattle.erasing.specs.Lines.{IsSchedule, erasedBy}
-use Rattle.erasing.proofs.Walking.{Walking, restOf, walk-start, none-left, few-kept, place-fits, line-there, first-small, second-small, walk-on, rest-kept, rest-struck}
+use Rattle.erasing.specs.Lines.{IsSchedule, erasedTo, erasedBy}
+use Rattle.erasing.proofs.Walking.{Walking, restOf, walk-start, none-left, few-kept, place-fits, line-there, first-small, second-small, word-known, walk-on, rest-kept, rest-struck}
 
 -- The loop's invariant: the records hold what erasing keeps of the schedule's first i lines, and with what it keeps of the rest that is
 -- the whole erasure.
@@ -40,7 +40,7 @@ module _
   all-erased end =
       sym (append-nil (linesHeld erasure at)) ∙ ap (λ (l : List Line). linesHeld erasure at ++ l) (sym (none-left schedule count origins at i (f .walk) end)) ∙ f .left
 
-  module _ (inside : i < count) (r : Erased) (told : r ≡ erasedBy origins (getD (linesOf schedule) i Free)) (erasure′ : List (List ℕ)) (origins′ : List ℕ) (at′ : ℕ) where
+  module _ (inside : i < count) (r : Erased) (told : erasedTo r ≡ erasedBy origins (getD (linesOf schedule) i Free)) (erasure′ : List (List ℕ)) (origins′ : List ℕ) (at′ : ℕ) where
     pub after-struck :
         (o : ℕ) → r ≡ Struck o → erasure′ ≡ erasure → origins′ ≡ set origins i o → at′ ≡ at → Filling schedule count erasure′ origins′ at′ (i + 1)
     after-struck o e p q n =
@@ -53,16 +53,16 @@ module _
         })
 
     pub after-kept :
-        (y : Line) → r ≡ Kept y → (m : List ℕ) → lineOf m ≡ y → erasure′ ≡ set erasure at m → origins′ ≡ set origins i at → at′ ≡ at + 1 →
+        (m a b c : ℕ) → r ≡ Kept m a b c → erasure′ ≡ set erasure at (m ∷ a ∷ b ∷ c ∷ []) → origins′ ≡ set origins i at → at′ ≡ at + 1 →
         Filling schedule count erasure′ origins′ at′ (i + 1)
-    after-kept y e m holds p q n =
+    after-kept m a b c e p q n =
         rw (p, q, n)
         (record {
           walk = walk-on schedule count origins at i (f .walk) inside at (at + 1) (omega (arith, f .walk .fewer));
-          room = length-set erasure at m ∙ f .room;
+          room = length-set erasure at (m ∷ a ∷ b ∷ c ∷ []) ∙ f .room;
           left =
-              rw (stored-lines erasure at m y (omega (arith, f .walk .fewer, f .walk .few, f .room)) holds, append-assoc)
-              (ap (λ (l : List Line). linesHeld erasure at ++ l) (sym (rest-kept schedule count origins at i (f .walk) inside r told y e)) ∙ f .left);
+              rw (stored-lines erasure at (m ∷ a ∷ b ∷ c ∷ []) (lineOf (m ∷ a ∷ b ∷ c ∷ [])) (omega (arith, f .walk .fewer, f .walk .few, f .room)) refl, append-assoc)
+              (ap (λ (l : List Line). linesHeld erasure at ++ l) (sym (rest-kept schedule count origins at i (f .walk) inside r told m a b c e)) ∙ f .left);
         })
 
-pub ruleset filling-laws = (needs, as-many, start, all-erased, few-kept, place-fits, line-there, first-small, second-small)
+pub ruleset filling-laws = (needs, as-many, start, all-erased, few-kept, place-fits, line-there, word-known, first-small, second-small)

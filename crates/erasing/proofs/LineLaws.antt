@@ -5,14 +5,18 @@ use mathlib.Core.Path.{_≡_, refl, ap}
 use mathlib.Core.Bool.{Bool, true, false, cond}
 use mathlib.Core.List.{List, [], _∷_}
 use borrow.Author.Needs.{needs}
+use lib.Dec.{T}
 use lib.ListN.{length, getD}
+use Rattle.model.specs.declared.Grammar.the-variants.{Schedule}
 use Rattle.model.specs.declared.Line.{Line}
+use Rattle.model.specs.declared.Line.the-variants.{Free}
+use Rattle.model.specs.Files.{isWord}
 use Rattle.model.specs.Services.{kept, madeFrom, fateOf, renamed}
 use Rattle.model.proofs.EveryWord.{each-line}
-use Rattle.tables.specs.Records.{isStruck}
+use Rattle.tables.specs.Records.{lineOf, linesOf, isStruck}
 use Rattle.tables.specs.Operands.{firstOperand, secondOperand, withOperands}
-use Rattle.erasing.specs.declared.Erased.the-variants.{Kept, Struck}
-use Rattle.erasing.specs.Lines.{erasedBy}
+use Rattle.tables.proofs.Words.{record-held}
+use Rattle.erasing.specs.Lines.{keptAs, struckFrom, erasedBy}
 
 -- ---- the fate of a line: a struck one was made from its first operand
 module _ (x : Line) where
@@ -37,20 +41,35 @@ origin-held [] a d h = absurd (not-suc-le-zero h)
 origin-held (o ∷ os) zero d h = refl
 origin-held (o ∷ os) (suc a) d h = origin-held os a d (le-of-suc-le-suc h)
 
--- ---- the line that the code has read
-module _ (x y : Line) (is : x ≡ y) (a : ℕ) where
-  pub first-there : a ≡ firstOperand x → firstOperand y < 1792 → a < 1792
-  first-there first small = rw (first, is) small
+numbers-line : (r : List ℕ) → lineOf (getD r 0 0 ∷ getD r 1 0 ∷ getD r 2 0 ∷ getD r 3 0 ∷ []) ≡ lineOf r
+unfolding lineOf
+numbers-line r = refl
 
-  pub second-there : a ≡ secondOperand x → secondOperand y < 1792 → a < 1792
-  second-there second small = rw (second, is) small
+-- ---- the line of the record that the code has read
+module _ (schedule : List (List ℕ)) (i : ℕ) where
+  abbrev here : Line
+  here = lineOf (getD schedule i [])
 
-  module _ (origins : List ℕ) (first : a ≡ firstOperand x) (b : Bool) (told : b ≡ isStruck y) where
-    pub struck-line : b ≡ true → Struck (getD origins a 0) ≡ erasedBy origins y
-    struck-line e = rw (← told, e, first, is)
+  abbrev line : Line
+  line = getD (linesOf schedule) i Free
 
-    pub kept-line :
-        b ≡ false → (n : ℕ) → n ≡ secondOperand x → (z : Line) → z ≡ withOperands x (getD origins a 0) (getD origins n 0) → Kept z ≡ erasedBy origins y
-    kept-line e n second z z-is = rw (← told, e, z-is, first, second, is)
+  pub word-there : T (isWord Schedule line) → T (isWord Schedule here)
+  word-there t = rw (record-held schedule i) t
 
-pub ruleset line-laws = (needs, first-there, second-there, struck-line, kept-line)
+  module _ (a : ℕ) where
+    pub first-there : a ≡ firstOperand here → firstOperand line < 1792 → a < 1792
+    first-there first small = rw (first, record-held schedule i) small
+
+    pub second-there : a ≡ secondOperand here → secondOperand line < 1792 → a < 1792
+    second-there second small = rw (second, record-held schedule i) small
+
+    module _ (origins : List ℕ) (first : a ≡ firstOperand here) (b : Bool) (told : b ≡ isStruck line) where
+      pub struck-line : b ≡ true → struckFrom (getD origins a 0) ≡ erasedBy origins line
+      struck-line e = rw (← told, e, first, record-held schedule i)
+
+      pub kept-line :
+          b ≡ false → (n : ℕ) → n ≡ secondOperand here → (r : List ℕ) → lineOf r ≡ withOperands here (getD origins a 0) (getD origins n 0) →
+          keptAs (lineOf (getD r 0 0 ∷ getD r 1 0 ∷ getD r 2 0 ∷ getD r 3 0 ∷ [])) ≡ erasedBy origins line
+      kept-line e n second r r-is = rw (← told, e, numbers-line r, r-is, first, second, record-held schedule i)
+
+pub ruleset line-laws = (needs, word-there, first-there, second-there, struck-line, kept-line)

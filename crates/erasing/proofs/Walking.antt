@@ -13,18 +13,18 @@ use lib.Seq.{length-take-le, take-suc-set, getD-take}
 use Rattle.model.specs.declared.Grammar.the-variants.{Schedule}
 use Rattle.model.specs.declared.Line.{Line}
 use Rattle.model.specs.declared.Line.the-variants.{Free}
-use Rattle.model.specs.Files.{operands, everyUsable}
+use Rattle.model.specs.Files.{isWord, operands, everyUsable}
 use Rattle.model.specs.Services.{Fate, kept, madeFrom, renumbered, eraseFrom, erase}
 use Rattle.model.proofs.Tests.{below-or-not}
-use Rattle.model.proofs.Formed.{formed-index, well-lines}
+use Rattle.model.proofs.Formed.{LineFacts, formed-index, well-lines}
 use Rattle.text.proofs.Tables.{table-length}
-use Rattle.tables.specs.Records.{linesOf, linesHeld, held, isStruck}
+use Rattle.tables.specs.Records.{lineOf, linesOf, linesHeld, held, isStruck}
 use Rattle.tables.specs.Operands.{firstOperand, secondOperand, withOperands}
 use Rattle.tables.proofs.Operands.{operand-below}
 use Rattle.tables.proofs.HeldLines.{formed-few, formed-long, records-long, next-line, no-line}
 use Rattle.erasing.specs.declared.Erased.{Erased}
 use Rattle.erasing.specs.declared.Erased.the-variants.{Kept, Struck}
-use Rattle.erasing.specs.Lines.{IsSchedule, erasedBy}
+use Rattle.erasing.specs.Lines.{IsSchedule, LineErased, keptAs, struckFrom, erasedTo, erasedBy}
 use Rattle.erasing.proofs.LineLaws.{line-kept, line-struck, renamed-is, origin-held}
 
 -- i lines are read, of which `at` are kept; the first i origins are theirs, and before the first line every origin is 0
@@ -93,10 +93,16 @@ module _ (schedule : List (List ℕ)) (count : ℕ) (origins : List ℕ) (at i :
     before-long : length (take i lines) ≡ i
     before-long = length-take-le i lines (omega (arith, lines-long))
 
+    facts : LineFacts Schedule (w .formed .header) (take i lines) line
+    facts =
+        subst (LineFacts Schedule (w .formed .header) (take i lines)) (getD-take count (linesOf schedule) i Free inside)
+        (formed-index Schedule (w .formed .header) lines (well-lines Schedule (w .formed .header) lines (w .formed .formed .lines)) i (omega (arith, lines-long)))
+
+    pub word-known : T (isWord Schedule line)
+    word-known = facts .word
+
     usable : T (everyUsable (take i lines) (operands line))
-    usable =
-        subst (λ (x : Line). T (everyUsable (take i lines) (operands x))) (getD-take count (linesOf schedule) i Free inside)
-        (formed-index Schedule (w .formed .header) lines (well-lines Schedule (w .formed .header) lines (w .formed .formed .lines)) i (omega (arith, lines-long)) .usable)
+    usable = facts .usable
 
     named : (j : ℕ) → getD (operands line) j 0 < 1792
     named j = operand-below (take i lines) 1792 (omega (arith, before-long, w .few)) (omega arith) (operands line) usable j
@@ -127,9 +133,9 @@ module _ (schedule : List (List ℕ)) (count : ℕ) (origins : List ℕ) (at i :
         (below-or-not 0 i)
 
     -- ---- what is left after line i
-    abbrev byErased : Erased → List Line
-    byErased (Kept y) = y ∷ restOf schedule count (set origins i at) (at + 1) (i + 1)
-    byErased (Struck o) = restOf schedule count (set origins i o) at (i + 1)
+    abbrev byErased : LineErased → List Line
+    byErased (keptAs y) = y ∷ restOf schedule count (set origins i at) (at + 1) (i + 1)
+    byErased (struckFrom o) = restOf schedule count (set origins i o) at (i + 1)
 
     abbrev byFate : Fate → List Line
     byFate fate =
@@ -146,16 +152,20 @@ module _ (schedule : List (List ℕ)) (count : ℕ) (origins : List ℕ) (at i :
     next = rw (next-line (linesOf schedule) count (records-long schedule (w .long)) (w .few) i inside) (go (isStruck line) refl)
       where
         go : (b : Bool) → isStruck line ≡ b → eraseFrom (take i origins) at (line ∷ drop (i + 1) lines)
-            ≡ byErased (cond b (Struck (getD origins (firstOperand line) 0)) (Kept (withOperands line (getD origins (firstOperand line) 0) (getD origins (secondOperand line) 0))))
+            ≡ byErased
+            (cond b (struckFrom (getD origins (firstOperand line) 0))
+            (keptAs (withOperands line (getD origins (firstOperand line) 0) (getD origins (secondOperand line) 0))))
         go true e = ap byFate (line-struck line e) ∙ rw (origins-before (getD origins (firstOperand line) 0), origin-is 0)
         go false e =
             ap byFate (line-kept line e)
             ∙ rw (origins-before at, add-one at, origin-is 0, origin-is 1, renamed-is (λ a. getD (take i origins) a at) line)
 
     -- what the code makes of it
-    module _ (r : Erased) (told : r ≡ erasedBy origins line) where
-      pub rest-kept : (y : Line) → r ≡ Kept y → restOf schedule count origins at i ≡ y ∷ restOf schedule count (set origins i at) (at + 1) (i + 1)
-      rest-kept y e = next ∙ ap byErased (sym told ∙ e)
+    module _ (r : Erased) (told : erasedTo r ≡ erasedBy origins line) where
+      pub rest-kept :
+          (n a b c : ℕ) → r ≡ Kept n a b c →
+          restOf schedule count origins at i ≡ lineOf (n ∷ a ∷ b ∷ c ∷ []) ∷ restOf schedule count (set origins i at) (at + 1) (i + 1)
+      rest-kept n a b c e = next ∙ ap byErased (sym told ∙ ap erasedTo e)
 
       pub rest-struck : (o : ℕ) → r ≡ Struck o → restOf schedule count origins at i ≡ restOf schedule count (set origins i o) at (i + 1)
-      rest-struck o e = next ∙ ap byErased (sym told ∙ e)
+      rest-struck o e = next ∙ ap byErased (sym told ∙ ap erasedTo e)

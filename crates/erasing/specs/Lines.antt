@@ -1,13 +1,13 @@
 -- A schedule's table, and what erasing makes of one of its lines, as the code has it.
 use Prim.Native.Nat.{ℕ}
 use mathlib.Core.Bool.{cond}
-use mathlib.Core.List.{List}
+use mathlib.Core.List.{List, [], _∷_}
 use lib.ListN.{getD}
 use Rattle.model.specs.declared.Header.{Header}
 use Rattle.model.specs.declared.Line.{Line}
 use Rattle.model.specs.declared.Grammar.the-variants.{Schedule}
 use Rattle.text.specs.Tables.{TableFormed}
-use Rattle.tables.specs.Records.{held, isStruck}
+use Rattle.tables.specs.Records.{lineOf, held, isStruck}
 use Rattle.tables.specs.Operands.{firstOperand, secondOperand, withOperands}
 use Rattle.erasing.specs.declared.Erased.{Erased}
 use Rattle.erasing.specs.declared.Erased.the-variants.{Kept, Struck}
@@ -17,8 +17,18 @@ pub record IsSchedule (records : List (List ℕ)) (count : ℕ) : Type 0 where
   pub header : Header
   pub formed : TableFormed Schedule (held header records count)
 
--- a line by the origins of the lines before it: struck, with the origin that it then has, or kept, with its operands' origins as operands
-abbrev pub erasedBy : List ℕ → Line → Erased
+-- what erasing makes of a line: it is kept as another line, or struck, with the origin that it then has
+pub data LineErased : Type 0 where
+  keptAs : Line → LineErased
+  struckFrom : ℕ → LineErased
+
+-- what the code has made of it, by the record's numbers where it is kept
+abbrev pub erasedTo : Erased → LineErased
+erasedTo (Kept n a b c) = keptAs (lineOf (n ∷ a ∷ b ∷ c ∷ []))
+erasedTo (Struck o) = struckFrom o
+
+-- a line by the origins of the lines before it: where it is kept, with its operands' origins as operands
+abbrev pub erasedBy : List ℕ → Line → LineErased
 erasedBy origins x =
     let first = getD origins (firstOperand x) 0 in
-    cond (isStruck x) (Struck first) (Kept (withOperands x first (getD origins (secondOperand x) 0)))
+    cond (isStruck x) (struckFrom first) (keptAs (withOperands x first (getD origins (secondOperand x) 0)))

@@ -1,43 +1,52 @@
 // Erases the table of a schedule to that of its circuit, and compares a circuit with what a schedule erases to.
 use model::Header;
-use model::Line;
 use tables::Record;
 ghost use mathlib.Core.Path.{_≡_};
 ghost use Prim.Native.Nat.{_≤_, _<_};
+ghost use lib.Dec.{T};
 ghost use lib.ListN.{length, getD, drop};
 ghost use Rattle.rows.specs.Rows.{placeOf};
 ghost use Rattle.model.specs.declared.Line.the-variants.{Free};
 ghost use Rattle.model.specs.declared.Grammar.the-variants.{Circuit, Schedule};
+ghost use Rattle.model.specs.Files.{isWord};
 ghost use Rattle.model.specs.Services.{erase};
 ghost use Rattle.model.specs.Answers.{sameHeader, rulesAnswer, check};
 ghost use Rattle.text.specs.Tables.{TableFormed, fileOf};
 ghost use Rattle.tables.specs.Operands.{firstOperand, secondOperand};
-ghost use Rattle.tables.specs.Records.{linesOf, linesHeld, freeRecords, held};
+ghost use Rattle.tables.specs.Records.{lineOf, linesOf, linesHeld, freeRecords, held};
 ghost use Rattle.erasing.specs.Comparing.{afterCompared, beginWith};
-ghost use Rattle.erasing.specs.Lines.{IsSchedule, erasedBy};
+ghost use Rattle.erasing.specs.Lines.{IsSchedule, erasedTo, erasedBy};
 
-// What erasing makes of a line: it is kept, its operands counted anew, or it is struck and was made from this kept line.
+// What erasing makes of a line: it is kept, its operands counted anew, and its record has these numbers, since an enum holds no array; or it
+// is struck and was made from this kept line.
 enum Erased {
-    Kept(Line),
+    Kept { number: u16, a: u16, b: u16, c: u16 },
     Struck(u16),
 }
 
 // Line i of a schedule; the origins are the kept lines that the lines before it are or were made from.
 fn erase_line(origins: &[u16; 1792], schedule: &[Record], i: usize) -> Erased
     requires { ⌜ i < length (now schedule) ⌝ }
+    requires { ⌜ T (isWord Schedule (getD (linesOf (now schedule)) i Free)) ⌝ }
     requires { ⌜ firstOperand (getD (linesOf (now schedule)) i Free) < 1792 ⌝ }
     requires { ⌜ secondOperand (getD (linesOf (now schedule)) i Free) < 1792 ⌝ }
-    ensures { λ r. ⌜ r ≡ erasedBy (now (origins .entry)) (getD (linesOf (now (schedule .entry))) i Free) ⌝ }
+    ensures { λ r. ⌜ erasedTo r ≡ erasedBy (now (origins .entry)) (getD (linesOf (now (schedule .entry))) i Free) ⌝ }
 {
-    let line = tables::line_at(schedule, i);
-    let a = tables::first_operand(line);
-    let b = tables::second_operand(line);
+    let record = schedule[i];
+    let a = tables::first_of(record);
+    let b = tables::second_of(record);
     let first = origins[a as usize];
     let second = origins[b as usize];
     if tables::struck_at(schedule, i) {
         return Erased::Struck(first);
     }
-    Erased::Kept(tables::with_operands(line, first, second))
+    let kept = tables::renamed(record, first, second);
+    Erased::Kept {
+        number: kept[0],
+        a: kept[1],
+        b: kept[2],
+        c: kept[3],
+    }
 }
 
 // The lines that erasing keeps, renumbered, into records that are free, and how many they are.
@@ -55,8 +64,8 @@ pub fn erase_table(schedule: &[Record], count: usize, erasure: &mut [Record]) ->
             Erased::Struck(origin) => {
                 origins[i] = origin;
             }
-            Erased::Kept(line) => {
-                erasure[at] = tables::record_of(line);
+            Erased::Kept { number, a, b, c } => {
+                erasure[at] = [number, a, b, c];
                 origins[i] = at as u16;
                 at += 1;
             }
@@ -86,17 +95,17 @@ fn same_header(one: Header, other: Header) -> bool
     one.top == other.top
 }
 
-// Whether a circuit's lines go on with this line at `at`.
-fn goes_on_with(circuit: &[Record], size: usize, at: usize, line: Line) -> bool
+// Whether a circuit's lines go on with this record's line at `at`.
+fn goes_on_with(circuit: &[Record], size: usize, at: usize, next: Record) -> bool
     requires { ⌜ length (now circuit) ≡ 1792 ⌝ }
     requires { ⌜ size ≤ 1792 ⌝ }
-    ensures { λ r. ⌜ r ≡ beginWith (drop at (linesHeld (now (circuit .entry)) size)) line ⌝ }
+    ensures { λ r. ⌜ r ≡ beginWith (drop at (linesHeld (now (circuit .entry)) size)) (lineOf next) ⌝ }
 {
     if size <= at {
         return false;
     }
-    let expected = tables::line_at(circuit, at);
-    tables::same_line(expected, line)
+    let expected = circuit[at];
+    tables::same_record(expected, next)
 }
 
 // Line `at` differs, or is one past the shorter file.
@@ -133,8 +142,8 @@ pub fn compare_erasure<'a>(
             Erased::Struck(origin) => {
                 origins[i] = origin;
             }
-            Erased::Kept(line) => {
-                if !goes_on_with(circuit, size, at, line) {
+            Erased::Kept { number, a, b, c } => {
+                if !goes_on_with(circuit, size, at, [number, a, b, c]) {
                     return differs_at(at);
                 }
                 origins[i] = at as u16;

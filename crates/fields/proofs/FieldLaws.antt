@@ -1,36 +1,66 @@
 -- The number of a row of digits, and the number that stands at a place: one law for each return of the code, its premises the tests on the way.
 -- Assumes nothing.
 use Prim.Native.Nat.{ℕ, zero, suc, _+_, _-_, _^_, _≤_, _<_}
-use native.Mathlib.Decide.{decLt}
 use native.Mathlib.Nat.{pow-le-pow-right}
 use native.Mathlib.Omega.{arith}
 use mathlib.Core.Bool.{Bool, true, false}
-use mathlib.Core.Path.{_≡_, refl, sym, ap, _∙_, subst}
+use mathlib.Core.Path.{_≡_, refl, sym, ap, _∙_}
 use mathlib.Core.List.{[], _∷_}
 use borrow.Author.Needs.{needs}
-use borrow.Author.Tests.{eqb-true, eqb-false, ne-eqb}
-use lib.Dec.{T, lit<}
+use borrow.Author.Tests.{not-true, not-false, eqb-true, eqb-false, ne-eqb, ltb-true, ltb-false, le-leb, lt-leb}
+use lib.Dec.{T, eqb, leb, lit<}
 use lib.IntN.{ℤ, pos, negsuc, natAbs, negℤ, _-ℤ_, +ℤ-idl}
 use lib.ListN.{length, getD, take, drop, length-drop}
-use lib.Seq.{length-take-le, drop-drop}
-use mir.Syntax.{w64}
-use mir.Val.{SFits, toZ, ofZ}
+use lib.Seq.{drop-drop}
+use lib.Signed.{ltZ}
+use mir.Syntax.{w32, w64}
+use mir.Val.{Fits, SFits, toZ, ofZ}
 use mir.ValLaws.{toZ-pos, toZ-ofZ}
 use Rattle.fields.specs.Pieces.{Bytes}
 use Rattle.fields.specs.Numbers.{digitsOf, numberOf, afterMinus, withoutMinus, amountOf}
-use Rattle.fields.specs.Digits.{digitsIn, amountIn, allDigits, allAmount, DigitsLeft}
-use Rattle.fields.specs.Places.{begins, EndFound, numberAt, amountAt, fieldAt}
+use Rattle.fields.specs.Digits.{digitsIn, amountIn, leadingZero, allDigits, allAmount, DigitsLeft}
+use Rattle.fields.specs.Places.{begins, sizeOf, numberAt, amountAt, fieldAt}
 use Rattle.fields.specs.declared.Field.{Field}
 use Rattle.fields.specs.declared.Field.the-variants.{Number, NoNumber}
 use Rattle.fields.specs.declared.Amount.{Amount}
 use Rattle.fields.specs.declared.Amount.the-variants.{By, NoAmount}
+use Rattle.fields.specs.declared.Size.{Size}
+use Rattle.fields.specs.declared.Size.the-variants.{Within, Above}
 use Rattle.fields.specs.declared.FieldAt.{FieldAt}
 use Rattle.fields.specs.declared.FieldAt.the-variants.{Whole, NoWhole}
 use Rattle.fields.proofs.PieceLaws.{rest-of}
 use Rattle.fields.proofs.NumberLaws.{number-long, number-zero, number-digits, number-below, amount-long, amount-minus, amount-plain, amount-below, minus-zero, minus-more}
-use Rattle.fields.proofs.SpanLaws.{digits-in-within, digits-in-all, amount-in-minus, amount-in-plain, amount-in-within, amount-in-all}
+use Rattle.fields.proofs.SpanLaws.{digits-in-all, amount-in-minus, amount-in-plain, amount-in-all}
 
 -- ---- the number that digits are
+pub short-leading : (f : Bytes) → length f < 2 → false ≡ leadingZero f
+unfolding leadingZero
+short-leading [] h = refl
+short-leading (b ∷ []) h = refl
+short-leading (b ∷ c ∷ bs) h = absurd (omega arith)
+
+pub first-leading : (f : Bytes) → 2 ≤ length f → eqb (getD f 0 0) 48 ≡ leadingZero f
+unfolding leadingZero
+first-leading [] h = absurd (omega arith)
+first-leading (b ∷ []) h = absurd (omega arith)
+first-leading (b ∷ c ∷ bs) h = refl
+
+record Leads (f : Bytes) : Type 0 where
+  more : 1 < length f
+  zero : getD f 0 0 ≡ 48
+
+leads : (f : Bytes) → leadingZero f ≡ true → Leads f
+unfolding leadingZero
+leads [] e = absurd (let z : _≡_ {A = ℕ} 0 1 = cc in omega arith)
+leads (b ∷ []) e = absurd (let z : _≡_ {A = ℕ} 0 1 = cc in omega arith)
+leads (b ∷ c ∷ bs) e = record { more = omega arith; zero = eqb-true b 48 e }
+
+alone : (f : Bytes) → leadingZero f ≡ false → getD f 0 0 ≡ 48 → length f ≡ 1
+unfolding leadingZero
+alone [] e z = absurd (omega arith)
+alone (b ∷ []) e z = refl
+alone (b ∷ c ∷ bs) e z = absurd (eqb-false b 48 e z)
+
 pub number-none : (f : Bytes) → length f ≡ 0 → NoNumber ≡ numberOf f
 unfolding numberOf
 number-none [] e = refl
@@ -47,15 +77,12 @@ module _ (f : Bytes) where
         let room = pow-le-pow-right {n = 10} (lit< tt) h in
         record { some = omega arith; digits = t; room = omega arith }
 
-    module _ (r : ℕ) (read : digitsOf f 0 ≡ Number r) where
-      pub number-alone : length f ≡ 1 → Number r ≡ numberOf f
-      number-alone e = sym (number-digits f (record { some = omega arith; short = omega arith; leading = λ z. e }) ∙ read)
+    module _ (z : Bool) (q : z ≡ leadingZero f) where
+      pub number-leading : z ≡ true → NoNumber ≡ numberOf f
+      number-leading e = let led = leads f (sym q ∙ e) in sym (number-zero f (led .more) (led .zero))
 
-      pub number-more : length f ≤ 11 → (getD f 0 0 ≡ 48 → ⊥) → Number r ≡ numberOf f
-      number-more short first = sym (number-digits f (record { some = omega arith; short = short; leading = λ z. absurd (first z) }) ∙ read)
-
-    pub number-zero-first : (length f ≡ 1 → ⊥) → getD f 0 0 ≡ 48 → NoNumber ≡ numberOf f
-    number-zero-first more e = sym (number-zero f (omega arith) e)
+      pub number-read : z ≡ false → length f ≤ 11 → (r : ℕ) → digitsOf f 0 ≡ Number r → Number r ≡ numberOf f
+      number-read e short r read = sym (number-digits f (record { some = omega arith; short = short; leading = alone f (sym q ∙ e) }) ∙ read)
 
 -- ---- a number as the machine holds it, and what is left of 0 without it
 module _ (f : Bytes) (r : Field) (v : ℕ) (q : r ≡ numberOf f) (e : r ≡ Number v) where
@@ -146,7 +173,7 @@ module _ (f : Bytes) where
         pub plain-number : (v : ℕ) → r ≡ Number v → By (toZ w64 v) ≡ amountOf f
         plain-number v e = ap By (number-held f r v q e) ∙ sym (without-minus first ∙ ap withoutMinus (sym q ∙ e))
 
-pub ruleset number-laws = (needs, number-none, number-many, digits-left, number-alone, number-more, number-zero-first)
+pub ruleset number-laws = (needs, not-true, not-false, short-leading, first-leading, number-none, number-many, digits-left, number-leading, number-read)
 
 pub ruleset amount-laws =
     (needs, number-fits, negative-fits, amount-none, amount-many, rest-digits, plain-digits, minus-other, minus-number, plain-other, plain-number)
@@ -176,104 +203,128 @@ module _ (s : Bytes) (at : ℕ) (t : Bool) (q : t ≡ begins 45 (drop at s)) whe
   pub minus-there : t ≡ true → at + 1 ≤ length s
   minus-there h = omega (arith, length-drop at s, ap length (begins-is 45 (drop at s) (sym q ∙ h)))
 
-  pub minus-passed : (r : ℕ) → t ≡ true → EndFound (at + 1) (digitsIn (drop (at + 1) s)) r → EndFound at (amountIn (drop at s)) r
+  pub minus-passed : (r : ℕ) → t ≡ true → r ≡ at + 1 + digitsIn (drop (at + 1) s) → r ≡ at + amountIn (drop at s)
   minus-passed r h e =
       let all : amountIn (drop at s) ≡ suc (digitsIn (drop (at + 1) s)) = in-minus (drop at s) (sym q ∙ h) ∙ ap (λ (u : Bytes). suc (digitsIn u)) (drop-drop 1 at s) in
-      record {
-        from = omega (arith, e .from);
-        most = omega (arith, e .most, all);
-        whole = λ short. let end = e .whole (omega arith) in omega (arith, end, all);
-      }
+      omega (arith, e, all)
 
-  pub no-minus : (r : ℕ) → t ≡ false → EndFound at (digitsIn (drop at s)) r → EndFound at (amountIn (drop at s)) r
-  no-minus r h e = subst (λ (n : ℕ). EndFound at n r) (sym (in-plain (drop at s) (sym q ∙ h))) e
+  pub no-minus : (r : ℕ) → t ≡ false → r ≡ at + digitsIn (drop at s) → r ≡ at + amountIn (drop at s)
+  no-minus r h e = e ∙ ap (λ (n : ℕ). at + n) (sym (in-plain (drop at s) (sym q ∙ h)))
 
 pub ruleset end-laws = (needs, minus-there, minus-passed, no-minus)
 
--- ---- the number at a place: the bytes from there to the end that was found
--- the whole of them, or more than any field has
-data Cut (at bytes end : ℕ) : Type 0 where
-  all : end ≡ at + bytes → Cut at bytes end
-  many : at + 11 < end → Cut at bytes end
+-- ---- a number against the caller's largest
+-- above it, below as much under zero, or neither
+over : (l : ℕ) (z : ℤ) → ltZ (pos l) z ≡ true → leb (natAbs z) l ≡ false
+over l (pos n) h = lt-leb n l (ltb-true l n h)
+over l (negsuc n) h = absurd (let z : _≡_ {A = ℕ} 0 1 = cc in omega arith)
 
-cut : {at bytes end : ℕ} → EndFound at bytes end → Cut at bytes end
-cut {at} {bytes} {end} found = elim (decLt (at + 11) end) [ yes l ↦ many l | no l ↦ all (found .whole (omega arith)) ]
+under : (l : ℕ) (z : ℤ) → ltZ z (negℤ (pos l)) ≡ true → leb (natAbs z) l ≡ false
+under zero (pos n) h = absurd (omega (arith, ltb-true n 0 h))
+under (suc l) (pos n) h = absurd (let z : _≡_ {A = ℕ} 0 1 = cc in omega arith)
+under zero (negsuc n) h = lt-leb (suc n) 0 (omega arith)
+under (suc l) (negsuc n) h = lt-leb (suc n) (suc l) (omega (arith, ltb-true l n h))
 
-module _ (s : Bytes) (at end : ℕ) (bytes : ℕ) (inside : bytes ≤ length (drop at s)) (found : EndFound at bytes end) where
-  few : end - at ≤ bytes
-  few = omega (arith, found .from, found .most)
+neither : (l : ℕ) (z : ℤ) → ltZ (pos l) z ≡ false → ltZ z (negℤ (pos l)) ≡ false → leb (natAbs z) l ≡ true
+neither l (pos n) h k = le-leb n l (ltb-false l n h)
+neither zero (negsuc n) h k = absurd (let z : _≡_ {A = ℕ} 0 1 = cc in omega arith)
+neither (suc l) (negsuc n) h k = le-leb (suc n) (suc l) (omega (arith, ltb-false l n k))
 
-  long-cut : at + 11 < end → 11 < length (take (end - at) (drop at s))
-  long-cut l = rw (length-take-le (end - at) (drop at s) (omega (arith, few))) (omega arith)
+module _ (largest : ℕ) where
+  pub number-over : (n : ℕ) → largest < n → Above ≡ sizeOf largest (pos n)
+  number-over n h = rw (lt-leb n largest h)
 
-  long-whole : at + 11 < end → 11 < length (take bytes (drop at s))
-  long-whole l = rw (length-take-le bytes (drop at s) inside) (omega (arith, found .most))
+  pub number-within : (n : ℕ) → n < 100000000000 → n ≤ largest → Within (toZ w64 n) ≡ sizeOf largest (pos n)
+  number-within n few h = rw (toZ-pos w64 n (omega arith), le-leb n largest h)
 
-  whole-cut : end ≡ at + bytes → take (end - at) (drop at s) ≡ take bytes (drop at s)
-  whole-cut e = let same : end - at ≡ bytes = omega arith in rw same
+  pub small-fits : (n : ℕ) → n < 100000000000 → SFits w64 (pos n)
+  small-fits n few = record { sfits = omega arith }
 
+  module _ (wide : Fits w32 largest) where
+    pub largest-fits : SFits w64 (pos largest)
+    largest-fits = let small = wide .fits in record { sfits = omega arith }
+
+    most : toZ w64 largest ≡ pos largest
+    most = let small = wide .fits in toZ-pos w64 largest (omega arith)
+
+    least : pos 0 -ℤ toZ w64 largest ≡ negℤ (pos largest)
+    least = rw most (+ℤ-idl (negℤ (pos largest)))
+
+    pub least-fits : SFits w64 (pos 0 -ℤ toZ w64 largest)
+    least-fits = rw least (signed largest (wide .fits))
+      where
+        signed : (l : ℕ) → l < 4294967296 → SFits w64 (negℤ (pos l))
+        signed zero h = record { sfits = omega arith }
+        signed (suc l) h = record { sfits = omega arith }
+
+    module _ (z : ℤ) (s : SFits w64 z) where
+      pub amount-over : ltZ (toZ w64 largest) (toZ w64 (ofZ w64 z)) ≡ true → Above ≡ sizeOf largest z
+      amount-over h = rw (over largest z (rw (most, toZ-ofZ w64 z s) at h))
+
+      module _ (few : ltZ (toZ w64 largest) (toZ w64 (ofZ w64 z)) ≡ false) where
+        pub amount-under : ltZ (toZ w64 (ofZ w64 z)) (toZ w64 (ofZ w64 (pos 0 -ℤ toZ w64 largest))) ≡ true → Above ≡ sizeOf largest z
+        amount-under h = rw (under largest z (rw (toZ-ofZ w64 (pos 0 -ℤ toZ w64 largest) least-fits, least, toZ-ofZ w64 z s) at h))
+
+        pub amount-within : ltZ (toZ w64 (ofZ w64 z)) (toZ w64 (ofZ w64 (pos 0 -ℤ toZ w64 largest))) ≡ false → Within (toZ w64 (ofZ w64 z)) ≡ sizeOf largest z
+        amount-within h =
+            rw (
+              toZ-ofZ w64 z s,
+              neither largest z (rw (most, toZ-ofZ w64 z s) at few)
+                  (rw (toZ-ofZ w64 (pos 0 -ℤ toZ w64 largest) least-fits, least, toZ-ofZ w64 z s) at h),
+            )
+
+pub ruleset number-size-laws = (needs, number-over, number-within, small-fits)
+
+pub ruleset amount-size-laws = (needs, not-true, not-false, largest-fits, least-fits, amount-over, amount-under, amount-within)
+
+-- ---- the number at a place
 module _ (s : Bytes) (at end : ℕ) where
-  module _ (found : EndFound at (digitsIn (drop at s)) end) where
+  module _ (found : end ≡ at + digitsIn (drop at s)) where
+    digits-piece : take (end - at) (drop at s) ≡ take (digitsIn (drop at s)) (drop at s)
+    digits-piece = let same : end - at ≡ digitsIn (drop at s) = omega arith in rw same
+
     pub digits-cut : T (allDigits (take (end - at) (drop at s)))
-    digits-cut = digits-in-all (drop at s) (end - at) (few s at end (digitsIn (drop at s)) (digits-in-within (drop at s)) found)
+    digits-cut = digits-in-all (drop at s) (end - at) (omega arith)
 
     module _ (r : Field) (q : r ≡ numberOf (take (end - at) (drop at s))) where
       number-is : numberOf (take (digitsIn (drop at s)) (drop at s)) ≡ r
-      number-is = go (cut found)
-        where
-          go : Cut at (digitsIn (drop at s)) end → numberOf (take (digitsIn (drop at s)) (drop at s)) ≡ r
-          go (all e) = ap numberOf (sym (whole-cut s at end (digitsIn (drop at s)) (digits-in-within (drop at s)) found e)) ∙ sym q
-          go (many l) =
-              number-long (take (digitsIn (drop at s)) (drop at s)) (long-whole s at end (digitsIn (drop at s)) (digits-in-within (drop at s)) found l)
-              ∙ sym (q ∙ number-long (take (end - at) (drop at s)) (long-cut s at end (digitsIn (drop at s)) (digits-in-within (drop at s)) found l))
+      number-is = sym (q ∙ ap numberOf digits-piece)
 
-      pub no-number-at : r ≡ NoNumber → NoWhole ≡ numberAt s at
+      pub no-number-at : (largest : ℕ) → r ≡ NoNumber → NoWhole ≡ numberAt largest s at
       unfolding numberAt
-      no-number-at e = rw (number-is, e)
+      no-number-at largest e = rw (number-is, e)
 
-      pub number-there : (n : ℕ) → r ≡ Number n → Whole (toZ w64 n) end ≡ numberAt s at
+      pub number-few : (n : ℕ) → r ≡ Number n → n < 100000000000
+      number-few n e = small (take (end - at) (drop at s)) r n q e
+
+      pub number-there : (largest n : ℕ) → r ≡ Number n → (z : Size) → z ≡ sizeOf largest (pos n) → Whole z end ≡ numberAt largest s at
       unfolding numberAt
-      number-there n e = rw (number-is, e, number-held (take (end - at) (drop at s)) r n q e, go (cut found))
-        where
-          go : Cut at (digitsIn (drop at s)) end → end ≡ at + digitsIn (drop at s)
-          go (all w) = w
-          go (many l) =
-              let nothing = number-long (take (end - at) (drop at s)) (long-cut s at end (digitsIn (drop at s)) (digits-in-within (drop at s)) found l) in
-              absurd (let z : _≡_ {A = ℕ} 0 1 = cc in omega arith)
+      number-there largest n e z is = rw (number-is, e, is, found)
 
-  module _ (found : EndFound at (amountIn (drop at s)) end) where
+  module _ (found : end ≡ at + amountIn (drop at s)) where
+    amount-piece : take (end - at) (drop at s) ≡ take (amountIn (drop at s)) (drop at s)
+    amount-piece = let same : end - at ≡ amountIn (drop at s) = omega arith in rw same
+
     pub amount-cut : T (allAmount (take (end - at) (drop at s)))
-    amount-cut = amount-in-all (drop at s) (end - at) (few s at end (amountIn (drop at s)) (amount-in-within (drop at s)) found)
+    amount-cut = amount-in-all (drop at s) (end - at) (omega arith)
 
     module _ (r : Amount) (q : r ≡ amountOf (take (end - at) (drop at s))) where
       amount-is : amountOf (take (amountIn (drop at s)) (drop at s)) ≡ r
-      amount-is = go (cut found)
-        where
-          go : Cut at (amountIn (drop at s)) end → amountOf (take (amountIn (drop at s)) (drop at s)) ≡ r
-          go (all e) = ap amountOf (sym (whole-cut s at end (amountIn (drop at s)) (amount-in-within (drop at s)) found e)) ∙ sym q
-          go (many l) =
-              amount-long (take (amountIn (drop at s)) (drop at s)) (long-whole s at end (amountIn (drop at s)) (amount-in-within (drop at s)) found l)
-              ∙ sym (q ∙ amount-long (take (end - at) (drop at s)) (long-cut s at end (amountIn (drop at s)) (amount-in-within (drop at s)) found l))
+      amount-is = sym (q ∙ ap amountOf amount-piece)
 
-      pub no-amount-at : r ≡ NoAmount → NoWhole ≡ amountAt s at
+      pub no-amount-at : (largest : ℕ) → r ≡ NoAmount → NoWhole ≡ amountAt largest s at
       unfolding amountAt
-      no-amount-at e = rw (amount-is, e)
+      no-amount-at largest e = rw (amount-is, e)
 
-      pub amount-there : (z : ℤ) → r ≡ By z → Whole (toZ w64 (ofZ w64 z)) end ≡ amountAt s at
+      pub amount-there : (largest : ℕ) (t : ℤ) → r ≡ By t → (z : Size) → z ≡ sizeOf largest (toZ w64 (ofZ w64 t)) → Whole z end ≡ amountAt largest s at
       unfolding amountAt
-      amount-there z e = rw (amount-is, e, amount-held (take (end - at) (drop at s)) z (sym q ∙ e), go (cut found))
-        where
-          go : Cut at (amountIn (drop at s)) end → end ≡ at + amountIn (drop at s)
-          go (all w) = w
-          go (many l) =
-              let nothing = amount-long (take (end - at) (drop at s)) (long-cut s at end (amountIn (drop at s)) (amount-in-within (drop at s)) found l) in
-              absurd (let z : _≡_ {A = ℕ} 0 1 = cc in omega arith)
+      amount-there largest t e z is = rw (amount-is, e, is, amount-held (take (end - at) (drop at s)) t (sym q ∙ e), found)
 
-module _ (s : Bytes) (at : ℕ) (signed : Bool) (r : FieldAt) where
-  pub as-amount : signed ≡ true → r ≡ amountAt s at → r ≡ fieldAt signed s at
+module _ (s : Bytes) (at : ℕ) (signed : Bool) (largest : ℕ) (r : FieldAt) where
+  pub as-amount : signed ≡ true → r ≡ amountAt largest s at → r ≡ fieldAt signed largest s at
   as-amount h e = rw h e
 
-  pub as-number : signed ≡ false → r ≡ numberAt s at → r ≡ fieldAt signed s at
+  pub as-number : signed ≡ false → r ≡ numberAt largest s at → r ≡ fieldAt signed largest s at
   as-number h e = rw h e
 
-pub ruleset place-laws = (needs, number-fits, digits-cut, no-number-at, number-there, amount-cut, no-amount-at, amount-there, as-amount, as-number)
+pub ruleset place-laws = (needs, digits-cut, no-number-at, number-few, number-there, amount-cut, no-amount-at, amount-there, as-amount, as-number)

@@ -1,7 +1,6 @@
 -- How a search for a byte, and one for a byte that is no digit, goes on and what it finds. Assumes nothing.
 use Prim.Native.Nat.{ℕ, suc, _+_, _-_, _<_, _≤_}
 use native.Mathlib.Numerals.{add-one}
-use native.Mathlib.Decide.{decLt}
 use native.Mathlib.Omega.{arith}
 use mathlib.Core.Bool.{false}
 use mathlib.Core.Path.{_≡_}
@@ -11,7 +10,7 @@ use lib.ListN.{length, getD, drop, drop-of-length-le}
 use lib.Seq.{drop-cons}
 use Rattle.fields.specs.Pieces.{Bytes}
 use Rattle.fields.specs.Digits.{digitsIn}
-use Rattle.fields.specs.Places.{begins, NoneBefore, DigitsTo, LookedTo, EndFound, before}
+use Rattle.fields.specs.Places.{begins, NoneBefore, DigitsTo, before}
 use Rattle.fields.proofs.PieceLaws.{before-here, before-other}
 use Rattle.fields.proofs.SpanLaws.{digits-in-low, digits-in-high, digits-in-more}
 
@@ -53,42 +52,28 @@ module _ (s : Bytes) (at : ℕ) where
 
   module _ (i : ℕ) (p : DigitsTo s at i) where
     -- no digit stands here
-    stops : digitsIn (drop i s) ≡ 0 → EndFound at (digitsIn (drop at s)) i
-    stops none = record { from = p .from; most = omega arith; whole = λ short. omega arith }
+    stops : digitsIn (drop i s) ≡ 0 → i ≡ at + digitsIn (drop at s)
+    stops none = omega (arith, p .rest)
 
-    module _ (limit : ℕ) (l : LookedTo s at limit) where
-      module _ (before : i < limit) where
-        inside : i < length s
-        inside = omega (arith, l .within)
+    module _ (inside : i < length s) where
+      pub digits-low : getD s i 0 < 48 → i ≡ at + digitsIn (drop at s)
+      digits-low u = stops (rw (drop-cons s i 0 inside) (digits-in-low (getD s i 0) (drop (suc i) s) u))
 
-        pub digits-low : getD s i 0 < 48 → EndFound at (digitsIn (drop at s)) i
-        digits-low u = stops (rw (drop-cons s i 0 inside) (digits-in-low (getD s i 0) (drop (suc i) s) u))
+      pub digits-high : (most : ℕ) → most < getD s i 0 → 57 ≤ most → i ≡ at + digitsIn (drop at s)
+      digits-high most u above = stops (rw (drop-cons s i 0 inside) (digits-in-high (getD s i 0) (drop (suc i) s) (omega arith)))
 
-        pub digits-high : (most : ℕ) → most < getD s i 0 → 57 ≤ most → EndFound at (digitsIn (drop at s)) i
-        digits-high most u above = stops (rw (drop-cons s i 0 inside) (digits-in-high (getD s i 0) (drop (suc i) s) (omega arith)))
+      pub digits-pass : 48 ≤ getD s i 0 → getD s i 0 ≤ 57 → DigitsTo s at (i + 1)
+      digits-pass low high =
+          let more : digitsIn (drop i s) ≡ suc (digitsIn (drop (suc i) s)) =
+          rw (drop-cons s i 0 inside) (digits-in-more (getD s i 0) (drop (suc i) s) (record { low = low; high = high })) in
+          let from = p .from in
+          rw (add-one i) (record { from = omega arith; within = omega (arith, inside); rest = omega arith })
 
-        pub digits-pass : 48 ≤ getD s i 0 → getD s i 0 ≤ 57 → DigitsTo s at (i + 1)
-        digits-pass low high =
-            let more : digitsIn (drop i s) ≡ suc (digitsIn (drop (suc i) s)) =
-            rw (drop-cons s i 0 inside) (digits-in-more (getD s i 0) (drop (suc i) s) (record { low = low; high = high })) in
-            let from = p .from in
-            rw (add-one i) (record { from = omega arith; within = omega (arith, inside); rest = omega arith })
-
-      -- the text's end, or more digits than any number has
-      pub digits-last : limit ≤ i → EndFound at (digitsIn (drop at s)) i
-      unfolding digitsIn
-      digits-last h =
-          elim (decLt i (length s)) [
-            | yes u ↦ record { from = p .from; most = omega (arith, p .rest); whole = λ short. absurd (omega (arith, l .far (omega arith))) }
-            | no u ↦ stops (let past : length s ≤ i = omega arith in rw (drop-of-length-le s past))
-          ]
-
-  pub looked-to-end : length s - at < 12 → at ≤ length s → LookedTo s at (length s)
-  looked-to-end u h = record { from = h; within = omega arith; far = λ v. absurd (omega arith) }
-
-  pub looked-far : 12 ≤ length s - at → at ≤ length s → LookedTo s at (at + 12)
-  looked-far u h = record { from = omega arith; within = omega arith; far = λ v. omega arith }
+    -- the text's end
+    pub digits-last : length s ≤ i → i ≡ at + digitsIn (drop at s)
+    unfolding digitsIn
+    digits-last past = stops (rw (drop-of-length-le s past))
 
 pub ruleset byte-laws = (needs, begin, found, pass, nowhere, is-there, is-past)
 
-pub ruleset digits-laws = (needs, digits-begin, digits-low, digits-high, digits-pass, digits-last, looked-to-end, looked-far)
+pub ruleset digits-laws = (needs, digits-begin, digits-low, digits-high, digits-pass, digits-last)

@@ -1,6 +1,6 @@
 -- What the code uses: the digits that it goes along, and the number that it then reads of them.
 use Prim.Native.Nat.{ℕ, suc, _+_, _*_, _^_, _≤_}
-use mathlib.Core.Bool.{Bool, true, cond, _&&_}
+use mathlib.Core.Bool.{Bool, true, false, cond, _&&_}
 use mathlib.Core.List.{[], _∷_}
 use lib.Dec.{T, eqb}
 use lib.ListN.{length}
@@ -16,6 +16,12 @@ digitsIn (b ∷ bs) = cond (isDigit b) (suc (digitsIn bs)) 0
 unfoldable pub amountIn : Bytes → ℕ
 amountIn [] = 0
 amountIn (b ∷ bs) = cond (eqb b 45) (suc (digitsIn bs)) (digitsIn (b ∷ bs))
+
+-- a zero in front of another byte
+unfoldable pub leadingZero : Bytes → Bool
+leadingZero [] = false
+leadingZero (b ∷ []) = false
+leadingZero (b ∷ c ∷ bs) = eqb b 48
 
 -- every byte is a digit, but for a minus in front of an amount
 unfoldable pub allDigits : Bytes → Bool

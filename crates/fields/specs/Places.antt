@@ -1,18 +1,20 @@
 -- What the code uses: a text from a place on, the byte that stands there, and the number.
-use Prim.Native.Nat.{ℕ, suc, _+_, _<_, _≤_}
+use Prim.Native.Nat.{ℕ, suc, _+_, _≤_}
 use mathlib.Core.Bool.{Bool, true, false, cond}
 use mathlib.Core.List.{[], _∷_}
 use mathlib.Core.Path.{_≡_}
-use lib.Dec.{eqb}
-use lib.IntN.{pos}
+use lib.Dec.{eqb, leb}
+use lib.IntN.{ℤ, pos, natAbs}
 use lib.ListN.{length, take, drop}
 use Rattle.fields.specs.Pieces.{Bytes}
-use Rattle.fields.specs.Numbers.{longestField, numberOf, amountOf}
+use Rattle.fields.specs.Numbers.{numberOf, amountOf}
 use Rattle.fields.specs.Digits.{digitsIn, amountIn}
 use Rattle.fields.specs.declared.Field.{Field}
 use Rattle.fields.specs.declared.Field.the-variants.{Number, NoNumber}
 use Rattle.fields.specs.declared.Amount.{Amount}
 use Rattle.fields.specs.declared.Amount.the-variants.{By, NoAmount}
+use Rattle.fields.specs.declared.Size.{Size}
+use Rattle.fields.specs.declared.Size.the-variants.{Within, Above}
 use Rattle.fields.specs.declared.FieldAt.{FieldAt}
 use Rattle.fields.specs.declared.FieldAt.the-variants.{Whole, NoWhole}
 
@@ -38,34 +40,27 @@ pub record DigitsTo (s : Bytes) (at i : ℕ) : Type 0 where
   pub within : i ≤ length s
   pub rest : at + digitsIn (drop at s) ≡ i + digitsIn (drop i s)
 
--- as far as digits are looked for from place `at` on: to the end, or past the longest field
-pub record LookedTo (s : Bytes) (at limit : ℕ) : Type 0 where
-  pub from : at ≤ limit
-  pub within : limit ≤ length s
-  pub far : limit < length s → at + longestField < limit
-
--- the end of so many bytes from place `at` on; or, past the longest field, a place among them
-pub record EndFound (at bytes end : ℕ) : Type 0 where
-  pub from : at ≤ end
-  pub most : end ≤ at + bytes
-  pub whole : end ≤ at + longestField → end ≡ at + bytes
-
 -- ---- the number that stands at a place, and the place past it
-abbrev pub numberTo : ℕ → Field → FieldAt
-numberTo end (Number n) = Whole (pos n) end
-numberTo end NoNumber = NoWhole
+-- Document 02, Job 1: "The field reader's promise takes the caller's largest allowed number." A number is within it or above it; an amount
+-- is so on either side of zero.
+abbrev pub sizeOf : ℕ → ℤ → Size
+sizeOf largest n = cond (leb (natAbs n) largest) (Within n) Above
 
-abbrev pub amountTo : ℕ → Amount → FieldAt
-amountTo end (By t) = Whole t end
-amountTo end NoAmount = NoWhole
+abbrev pub numberTo : ℕ → ℕ → Field → FieldAt
+numberTo largest end (Number n) = Whole (sizeOf largest (pos n)) end
+numberTo largest end NoNumber = NoWhole
 
-unfoldable pub numberAt : Bytes → ℕ → FieldAt
-numberAt s at = numberTo (at + digitsIn (drop at s)) (numberOf (take (digitsIn (drop at s)) (drop at s)))
+abbrev pub amountTo : ℕ → ℕ → Amount → FieldAt
+amountTo largest end (By t) = Whole (sizeOf largest t) end
+amountTo largest end NoAmount = NoWhole
 
-unfoldable pub amountAt : Bytes → ℕ → FieldAt
-amountAt s at = amountTo (at + amountIn (drop at s)) (amountOf (take (amountIn (drop at s)) (drop at s)))
+unfoldable pub numberAt : ℕ → Bytes → ℕ → FieldAt
+numberAt largest s at = numberTo largest (at + digitsIn (drop at s)) (numberOf (take (digitsIn (drop at s)) (drop at s)))
+
+unfoldable pub amountAt : ℕ → Bytes → ℕ → FieldAt
+amountAt largest s at = amountTo largest (at + amountIn (drop at s)) (amountOf (take (amountIn (drop at s)) (drop at s)))
 
 -- of a field with a sign, or without
-abbrev pub fieldAt : Bool → Bytes → ℕ → FieldAt
-fieldAt true s at = amountAt s at
-fieldAt false s at = numberAt s at
+abbrev pub fieldAt : Bool → ℕ → Bytes → ℕ → FieldAt
+fieldAt true largest s at = amountAt largest s at
+fieldAt false largest s at = numberAt largest s at

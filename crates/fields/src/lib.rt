@@ -1,13 +1,14 @@
 // A text by its places: where a byte stands, whether two pieces are the same bytes, and the number that stands at a place. A number ends at the
 // first byte that is no digit; whether that byte may stand there is asked by who reads the line.
 ghost use mathlib.Core.Path.{_≡_};
-ghost use Prim.Native.Nat.{_≤_};
+ghost use Prim.Native.Nat.{_+_, _≤_, _<_};
 ghost use lib.Dec.{T};
+ghost use lib.IntN.{pos};
 ghost use lib.ListN.{length, drop};
 ghost use Rattle.fields.specs.Pieces.{sameBytes};
 ghost use Rattle.fields.specs.Numbers.{digitsOf, numberOf, amountOf};
-ghost use Rattle.fields.specs.Digits.{digitsIn, amountIn, allDigits, allAmount, DigitsLeft};
-ghost use Rattle.fields.specs.Places.{begins, LookedTo, EndFound, numberAt, amountAt, fieldAt, before};
+ghost use Rattle.fields.specs.Digits.{digitsIn, amountIn, leadingZero, allDigits, allAmount, DigitsLeft};
+ghost use Rattle.fields.specs.Places.{begins, sizeOf, numberAt, amountAt, fieldAt, before};
 
 // What a number field is: a number, whatever its range, or none.
 pub enum Field {
@@ -21,9 +22,15 @@ pub enum Amount {
     NoAmount,
 }
 
+// A number against the largest that its caller allows: within it, on either side of zero, or above it.
+pub enum Size {
+    Within(i64),
+    Above,
+}
+
 // What stands at a place: a number and the place past it, or none.
 pub enum FieldAt {
-    Whole { number: i64, end: usize },
+    Whole { number: Size, end: usize },
     NoWhole,
 }
 
@@ -59,26 +66,14 @@ pub fn is_at(s: &[u8], at: usize, x: u8) -> bool
     false
 }
 
-// How far digits are looked for: no number has more than 11.
-fn digits_limit(s: &[u8], at: usize) -> usize
-    requires { ⌜ at ≤ length (now s) ⌝ }
-    ensures { λ r. ⌜ LookedTo (now (s .entry)) at r ⌝ }
-{
-    if s.len() - at < 12 {
-        return s.len();
-    }
-    at + 12
-}
-
-// The first place from `at` on where no digit stands, or the limit.
+// The first place from `at` on where no digit stands.
 fn digits_end(s: &[u8], at: usize) -> usize
     requires { ⌜ at ≤ length (now s) ⌝ }
-    ensures { λ r. ⌜ EndFound at (digitsIn (drop at (now (s .entry)))) r ⌝ }
+    ensures { λ r. ⌜ r ≡ at + digitsIn (drop at (now (s .entry))) ⌝ }
     ensures within { λ r. ⌜ r ≤ length (now (s .entry)) ⌝ }
 {
-    let limit = digits_limit(s, at);
     let mut i = at;
-    while i < limit {
+    while i < s.len() {
         let b = s[i];
         if b < b'0' {
             return i;
@@ -94,7 +89,7 @@ fn digits_end(s: &[u8], at: usize) -> usize
 // The same, past a minus where one stands.
 fn amount_end(s: &[u8], at: usize) -> usize
     requires { ⌜ at ≤ length (now s) ⌝ }
-    ensures { λ r. ⌜ EndFound at (amountIn (drop at (now (s .entry)))) r ⌝ }
+    ensures { λ r. ⌜ r ≡ at + amountIn (drop at (now (s .entry))) ⌝ }
     ensures within { λ r. ⌜ r ≤ length (now (s .entry)) ⌝ }
 {
     if is_at(s, at, b'-') {
@@ -123,6 +118,16 @@ fn digits(f: &[u8], value: u64) -> u64
     digits(&f[3..], three)
 }
 
+// Whether a zero stands in front of another byte.
+fn has_leading_zero(f: &[u8]) -> bool
+    ensures { λ r. ⌜ r ≡ leadingZero (now (f .entry)) ⌝ }
+{
+    if f.len() < 2 {
+        return false;
+    }
+    f[0] == b'0'
+}
+
 // The number that digits are: 1 to 11 of them, and no zero in front of another.
 fn read_number(f: &[u8]) -> Field
     requires { ⌜ T (allDigits (now f)) ⌝ }
@@ -135,10 +140,7 @@ fn read_number(f: &[u8]) -> Field
     if 11 < n {
         return Field::NoNumber;
     }
-    if n == 1 {
-        return Field::Number(digits(f, 0));
-    }
-    if f[0] == b'0' {
+    if has_leading_zero(f) {
         return Field::NoNumber;
     }
     Field::Number(digits(f, 0))
@@ -170,40 +172,67 @@ fn read_amount(f: &[u8]) -> Amount
     Amount::By(n as i64)
 }
 
+// A number against its caller's largest, and an amount, which is held to it on either side of zero.
+fn number_size(largest: u32, number: u64) -> Size
+    requires { ⌜ number < 100000000000 ⌝ }
+    ensures { λ r. ⌜ r ≡ sizeOf largest (pos number) ⌝ }
+{
+    if (largest as u64) < number {
+        return Size::Above;
+    }
+    Size::Within(number as i64)
+}
+
+fn amount_size(largest: u32, amount: i64) -> Size
+    ensures { λ r. ⌜ r ≡ sizeOf largest amount ⌝ }
+{
+    let most = largest as i64;
+    if most < amount {
+        return Size::Above;
+    }
+    if amount < 0 - most {
+        return Size::Above;
+    }
+    Size::Within(amount)
+}
+
 // The number that stands at a place.
-fn number_at(s: &[u8], at: usize) -> FieldAt
+fn number_at(s: &[u8], at: usize, largest: u32) -> FieldAt
     requires { ⌜ at ≤ length (now s) ⌝ }
-    ensures { λ r. ⌜ r ≡ numberAt (now (s .entry)) at ⌝ }
+    ensures { λ r. ⌜ r ≡ numberAt largest (now (s .entry)) at ⌝ }
 {
     let end = digits_end(s, at);
     let Field::Number(n) = read_number(&s[at..end]) else {
         return FieldAt::NoWhole;
     };
     FieldAt::Whole {
-        number: n as i64,
+        number: number_size(largest, n),
         end,
     }
 }
 
 // The rotation amount that stands at a place.
-fn amount_at(s: &[u8], at: usize) -> FieldAt
+fn amount_at(s: &[u8], at: usize, largest: u32) -> FieldAt
     requires { ⌜ at ≤ length (now s) ⌝ }
-    ensures { λ r. ⌜ r ≡ amountAt (now (s .entry)) at ⌝ }
+    ensures { λ r. ⌜ r ≡ amountAt largest (now (s .entry)) at ⌝ }
 {
     let end = amount_end(s, at);
-    let Amount::By(number) = read_amount(&s[at..end]) else {
+    let Amount::By(amount) = read_amount(&s[at..end]) else {
         return FieldAt::NoWhole;
     };
-    FieldAt::Whole { number, end }
+    FieldAt::Whole {
+        number: amount_size(largest, amount),
+        end,
+    }
 }
 
-// The number of a field with a sign, or without, that stands at a place.
-pub fn field_at(s: &[u8], at: usize, signed: bool) -> FieldAt
+// The number of a field with a sign, or without, that stands at a place, against the largest that the caller allows.
+pub fn field_at(s: &[u8], at: usize, signed: bool, largest: u32) -> FieldAt
     requires { ⌜ at ≤ length (now s) ⌝ }
-    ensures { λ r. ⌜ r ≡ fieldAt signed (now (s .entry)) at ⌝ }
+    ensures { λ r. ⌜ r ≡ fieldAt signed largest (now (s .entry)) at ⌝ }
 {
     if signed {
-        return amount_at(s, at);
+        return amount_at(s, at, largest);
     }
-    number_at(s, at)
+    number_at(s, at, largest)
 }

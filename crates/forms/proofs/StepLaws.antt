@@ -3,26 +3,29 @@ use Prim.Native.Nat.{ℕ, zero, suc, _+_, _≤_, _<_}
 use native.Mathlib.Decide.{ℕ-discrete}
 use native.Mathlib.Numerals.{add-one}
 use native.Mathlib.Omega.{arith}
-use mathlib.Core.Bool.{Bool, true, false, cond, _&&_}
-use mathlib.Core.Path.{_≡_, refl, sym, ap, _∙_}
-use mathlib.Core.List.{List, [], _∷_, _++_, append-nil}
+use mathlib.Core.Bool.{Bool, true, false, cond, _&&_, _||_}
+use mathlib.Core.Path.{_≡_, refl, sym, ap, ap₂, _∙_, subst}
+use mathlib.Core.List.{List, [], _∷_, _++_, append-nil, map}
 use mathlib.Core.Option.{Option, none, some, Option·map}
 use borrow.Author.Needs.{needs}
 use borrow.Author.Tests.{not-true, not-false, ne-eqb}
-use lib.Dec.{eqb}
-use lib.IntN.{ℤ, pos}
+use lib.Dec.{eqb, leb}
+use lib.IntN.{ℤ, pos, natAbs}
 use lib.ListN.{length, take, drop, getD, set, length-drop, length-set}
 use lib.Seq.{append-snoc, drop-drop, take-suc-set, getD-set-same, getD-set-other}
 use mir.Syntax.{w64}
-use mir.Val.{toZ, ofZ}
+use mir.Val.{SFits, toZ, ofZ}
+use mir.ValLaws.{toZ-ofZ}
 use Rattle.fields.specs.Pieces.{Bytes, tab, lineFeed, split}
 use Rattle.fields.specs.Numbers.{numberOf, amountOf}
 use Rattle.fields.specs.Digits.{digitsIn, amountIn}
-use Rattle.fields.specs.Places.{begins, numberTo, amountTo, numberAt, amountAt, fieldAt}
+use Rattle.fields.specs.Places.{begins, sizeOf, numberTo, amountTo, numberAt, amountAt, fieldAt}
 use Rattle.fields.specs.declared.Field.{Field}
 use Rattle.fields.specs.declared.Field.the-variants.{Number, NoNumber}
 use Rattle.fields.specs.declared.Amount.{Amount}
 use Rattle.fields.specs.declared.Amount.the-variants.{By, NoAmount}
+use Rattle.fields.specs.declared.Size.{Size}
+use Rattle.fields.specs.declared.Size.the-variants.{Within, Above}
 use Rattle.fields.specs.declared.FieldAt.{FieldAt}
 use Rattle.fields.specs.declared.FieldAt.the-variants.{Whole, NoWhole}
 use Rattle.fields.proofs.SpanLaws.{digits-in-more, digits-in-other, digit-by-digit, amount-in-plain}
@@ -30,10 +33,13 @@ use Rattle.fields.proofs.NumberLaws.{number-below, amount-below}
 use Rattle.fields.proofs.FieldLaws.{begins-is}
 use Rattle.fields.proofs.PieceLaws.{split-some}
 use Rattle.rows.specs.Fields.{Holds, operand, amount, natural, signed, both, readFields}
-use Rattle.forms.specs.declared.NumbersAt.the-variants.{Numbers, NotOfForm}
-use Rattle.forms.specs.Along.{lineIn, isClosed, numbersIn, fieldAfter, signedAt, fieldsBy, numbersTo}
+use Rattle.forms.specs.declared.NumbersAt.{NumbersAt}
+use Rattle.forms.specs.declared.NumbersAt.the-variants.{Numbers, NotOfForm, OutOfRange}
+use Rattle.forms.specs.Along.{lineIn, isClosed, numbersIn}
+use Rattle.forms.specs.Asked.{signedAt, largestAt, outsideAt, heldAs, fieldAfter, Asked, askedAt, described, signedIn, largestIn, outsideIn, readAs, sizeIn, anyOutside, allHeld, numbersFrom, numbersTo}
 use Rattle.forms.proofs.AlongLaws.{number-field, amount-field}
 use Rattle.forms.proofs.TextLaws.{Small, small-held}
+use Rattle.forms.proofs.RangeLaws.{signed-in, largest-in, outside-in}
 
 -- ---- the byte that is asked for
 no-tab : (f : Holds) (fs : List Holds) (t : Bytes) → begins tab t ≡ false → numbersIn (f ∷ fs) t ≡ none
@@ -67,29 +73,6 @@ line-tab : (u : Bytes) → length (lineIn (9 ∷ u)) ≡ suc (length (lineIn u))
 unfolding lineIn
 line-tab u = refl
 
--- ---- the number that was read, and what is left of the text
--- what a field that was read leaves to be read
-abbrev left-by : List Holds → Bytes → FieldAt → Option (List ℤ)
-left-by fs s (Whole z end) = both (some z) (numbersIn fs (drop end s))
-left-by fs s NoWhole = none
-
-field-left : (b : Bool) (fs : List Holds) (s : Bytes) (at : ℕ) → numbersIn (cond b (amount 0) operand ∷ fs) (9 ∷ drop at s) ≡ left-by fs s (fieldAt b s at)
-unfolding numberAt amountAt
-field-left true fs s at =
-    amount-field 0 fs (drop at s)
-    ∙ rw (drop-drop (amountIn (drop at s)) at s) (go (amountOf (take (amountIn (drop at s)) (drop at s))))
-  where
-    go : (r : Amount) → both (signed r) (numbersIn fs (drop (at + amountIn (drop at s)) s)) ≡ left-by fs s (amountTo (at + amountIn (drop at s)) r)
-    go (By t) = refl
-    go NoAmount = refl
-field-left false fs s at =
-    number-field fs (drop at s)
-    ∙ rw (drop-drop (digitsIn (drop at s)) at s) (go (numberOf (take (digitsIn (drop at s)) (drop at s))))
-  where
-    go : (r : Field) → both (natural r) (numbersIn fs (drop (at + digitsIn (drop at s)) s)) ≡ left-by fs s (numberTo (at + digitsIn (drop at s)) r)
-    go (Number n) = refl
-    go NoNumber = refl
-
 -- ---- digits are no line feed: the line goes on as far as before
 line-digits : (t : Bytes) → length (lineIn t) ≡ digitsIn t + length (lineIn (drop (digitsIn t) t))
 unfolding lineIn digitsIn
@@ -104,36 +87,6 @@ line-amount [] = omega arith
 line-amount (b ∷ bs) =
     elim (ℕ-discrete b 45) [ yes e ↦ rw e (omega (arith, line-digits bs)) | no n ↦ rw (amount-in-plain b bs n) (line-digits (b ∷ bs)) ]
 
--- a field that was read: a small number, and the line ends where it did
-record FieldRead (s : Bytes) (at : ℕ) (z : ℤ) (end : ℕ) : Type 0 where
-  small : Small z
-  line : at + length (lineIn (drop at s)) ≡ end + length (lineIn (drop end s))
-
-field-read : (b : Bool) (s : Bytes) (at : ℕ) {z : ℤ} {end : ℕ} → fieldAt b s at ≡ Whole z end → FieldRead s at z end
-unfolding numberAt amountAt
-field-read true s at {z} {end} e = go (amountOf (take (amountIn (drop at s)) (drop at s))) refl e
-  where
-    go : (r : Amount) → amountOf (take (amountIn (drop at s)) (drop at s)) ≡ r → amountTo (at + amountIn (drop at s)) r ≡ Whole z end → FieldRead s at z end
-    go (By t) q e =
-        let number : t ≡ z = cc in
-        let place : at + amountIn (drop at s) ≡ end = cc in
-        record {
-          small = rw (← number) (amount-below (take (amountIn (drop at s)) (drop at s)) q);
-          line = rw (← place, ← drop-drop (amountIn (drop at s)) at s) (omega (arith, line-amount (drop at s)));
-        }
-    go NoAmount q e = absurd (let z : _≡_ {A = ℕ} 0 1 = cc in omega arith)
-field-read false s at {z} {end} e = go (numberOf (take (digitsIn (drop at s)) (drop at s))) refl e
-  where
-    go : (r : Field) → numberOf (take (digitsIn (drop at s)) (drop at s)) ≡ r → numberTo (at + digitsIn (drop at s)) r ≡ Whole z end → FieldRead s at z end
-    go (Number n) q e =
-        let number : pos n ≡ z = cc in
-        let place : at + digitsIn (drop at s) ≡ end = cc in
-        record {
-          small = rw (← number) (number-below (take (digitsIn (drop at s)) (drop at s)) q);
-          line = rw (← place, ← drop-drop (digitsIn (drop at s)) at s) (omega (arith, line-digits (drop at s)));
-        }
-    go NoNumber q e = absurd (let z : _≡_ {A = ℕ} 0 1 = cc in omega arith)
-
 -- where the line ends
 abbrev line-end : Bytes → ℕ → ℕ
 line-end s at = at + length (lineIn (drop at s))
@@ -144,75 +97,147 @@ holds b = cond b (amount 0) operand
 abbrev machine : ℤ → ℤ
 machine z = toZ w64 (ofZ w64 z)
 
--- ---- one field
+-- ---- a field that was read: a small number, against the caller's largest; the line ends where it did, and the other fields are left to be read
+record FieldRead (b : Bool) (largest : ℕ) (s : Bytes) (at : ℕ) (size : Size) (end : ℕ) : Type 0 where
+  number : ℤ
+  sized : size ≡ sizeOf largest number
+  small : Small number
+  line : line-end s at ≡ line-end s end
+  left : (fs : List Holds) → numbersIn (holds b ∷ fs) (9 ∷ drop at s) ≡ both (some number) (numbersIn fs (drop end s))
+
+module _ (largest : ℕ) (s : Bytes) (at : ℕ) where
+  amount-left : (fs : List Holds)
+      → numbersIn (amount 0 ∷ fs) (9 ∷ drop at s)
+      ≡ both (signed (amountOf (take (amountIn (drop at s)) (drop at s)))) (numbersIn fs (drop (at + amountIn (drop at s)) s))
+  amount-left fs = amount-field 0 fs (drop at s) ∙ rw (drop-drop (amountIn (drop at s)) at s)
+
+  number-left : (fs : List Holds)
+      → numbersIn (operand ∷ fs) (9 ∷ drop at s) ≡ both (natural (numberOf (take (digitsIn (drop at s)) (drop at s)))) (numbersIn fs (drop (at + digitsIn (drop at s)) s))
+  number-left fs = number-field fs (drop at s) ∙ rw (drop-drop (digitsIn (drop at s)) at s)
+
+  field-read : (b : Bool) {size : Size} {end : ℕ} → fieldAt b largest s at ≡ Whole size end → FieldRead b largest s at size end
+  unfolding numberAt amountAt
+  field-read true {size} {end} e = go (amountOf (take (amountIn (drop at s)) (drop at s))) refl e
+    where
+      go : (r : Amount) → amountOf (take (amountIn (drop at s)) (drop at s)) ≡ r → amountTo largest (at + amountIn (drop at s)) r ≡ Whole size end
+          → FieldRead true largest s at size end
+      go (By t) q e =
+          let place : at + amountIn (drop at s) ≡ end = cc in
+          record {
+            number = t;
+            sized = cc;
+            small = amount-below (take (amountIn (drop at s)) (drop at s)) q;
+            line = rw (← place, ← drop-drop (amountIn (drop at s)) at s) (omega (arith, line-amount (drop at s)));
+            left = λ fs. amount-left fs ∙ rw (q, place);
+          }
+      go NoAmount q e = absurd (let z : _≡_ {A = ℕ} 0 1 = cc in omega arith)
+  field-read false {size} {end} e = go (numberOf (take (digitsIn (drop at s)) (drop at s))) refl e
+    where
+      go : (r : Field) → numberOf (take (digitsIn (drop at s)) (drop at s)) ≡ r → numberTo largest (at + digitsIn (drop at s)) r ≡ Whole size end
+          → FieldRead false largest s at size end
+      go (Number n) q e =
+          let place : at + digitsIn (drop at s) ≡ end = cc in
+          record {
+            number = pos n;
+            sized = cc;
+            small = number-below (take (digitsIn (drop at s)) (drop at s)) q;
+            line = rw (← place, ← drop-drop (digitsIn (drop at s)) at s) (omega (arith, line-digits (drop at s)));
+            left = λ fs. number-left fs ∙ rw (q, place);
+          }
+      go NoNumber q e = absurd (let z : _≡_ {A = ℕ} 0 1 = cc in omega arith)
+
+  field-none : (b : Bool) → fieldAt b largest s at ≡ NoWhole → (fs : List Holds) → numbersIn (holds b ∷ fs) (9 ∷ drop at s) ≡ none
+  unfolding numberAt amountAt
+  field-none true e fs = amount-left fs ∙ go (amountOf (take (amountIn (drop at s)) (drop at s))) e
+    where
+      go : (r : Amount) → amountTo largest (at + amountIn (drop at s)) r ≡ NoWhole → both (signed r) (numbersIn fs (drop (at + amountIn (drop at s)) s)) ≡ none
+      go (By t) e = absurd (let z : _≡_ {A = ℕ} 0 1 = cc in omega arith)
+      go NoAmount e = refl
+  field-none false e fs = number-left fs ∙ go (numberOf (take (digitsIn (drop at s)) (drop at s))) e
+    where
+      go : (r : Field) → numberTo largest (at + digitsIn (drop at s)) r ≡ NoWhole → both (natural r) (numbersIn fs (drop (at + digitsIn (drop at s)) s)) ≡ none
+      go (Number n) e = absurd (let z : _≡_ {A = ℕ} 0 1 = cc in omega arith)
+      go NoNumber e = refl
+
+-- ---- one field, after a tab
 tab-here : (s : Bytes) (at : ℕ) → begins tab (drop at s) ≡ true → drop at s ≡ 9 ∷ drop (at + 1) s
 tab-here s at h = begins-is 9 (drop at s) h ∙ ap (λ (u : Bytes). 9 ∷ u) (drop-drop 1 at s)
 
-module _ (b : Bool) (s : Bytes) (at : ℕ) (t : Bool) (q : t ≡ begins tab (drop at s)) where
-  pub no-field : t ≡ false → NoWhole ≡ fieldAfter b s at
+module _ (b : Bool) (largest : ℕ) (s : Bytes) (at : ℕ) (t : Bool) (q : t ≡ begins tab (drop at s)) where
+  pub no-field : t ≡ false → NoWhole ≡ fieldAfter b largest s at
   unfolding fieldAfter
   no-field h = rw (← q, h)
 
-  pub field-there : (r : FieldAt) → t ≡ true → r ≡ fieldAt b s (at + 1) → r ≡ fieldAfter b s at
+  pub field-there : t ≡ true → (r : FieldAt) → r ≡ fieldAt b largest s (at + 1) → r ≡ fieldAfter b largest s at
   unfolding fieldAfter
-  field-there r h e = rw (← q, h) e
+  field-there h r e = rw (← q, h) e
 
   pub field-within : t ≡ true → at + 1 ≤ length s
   field-within h = omega (arith, length-drop at s, ap length (tab-here s at (sym q ∙ h)))
 
 pub ruleset field-laws = (needs, not-true, not-false, no-field, field-there, field-within)
 
--- a field that was read, and what it leaves to be read
-record Stepped (b : Bool) (s : Bytes) (at : ℕ) (z : ℤ) (end : ℕ) : Type 0 where
-  small : Small z
+-- a field that was read after a tab, and what it leaves to be read
+record Stepped (f : Asked) (s : Bytes) (at : ℕ) (size : Size) (end : ℕ) : Type 0 where
+  number : ℤ
+  sized : size ≡ sizeIn f number
+  small : Small number
   line : line-end s at ≡ line-end s end
-  left : (fs : List Holds) → numbersIn (holds b ∷ fs) (drop at s) ≡ both (some z) (numbersIn fs (drop end s))
+  left : (fs : List Holds) → numbersIn (readAs f ∷ fs) (drop at s) ≡ both (some number) (numbersIn fs (drop end s))
 
-module _ (b : Bool) (s : Bytes) (at : ℕ) (r : FieldAt) (q : r ≡ fieldAfter b s at) where
-  stepped : {z : ℤ} {end : ℕ} → r ≡ Whole z end → Stepped b s at z end
+module _ (f : Asked) (s : Bytes) (at : ℕ) (r : FieldAt) (q : r ≡ fieldAfter (signedIn f) (largestIn f) s at) where
+  stepped : {size : Size} {end : ℕ} → r ≡ Whole size end → Stepped f s at size end
   unfolding fieldAfter
-  stepped {z} {end} e = go (begins tab (drop at s)) refl (sym q ∙ e)
+  stepped {size} {end} e = go (begins tab (drop at s)) refl (sym q ∙ e)
     where
-      go : (t : Bool) → begins tab (drop at s) ≡ t → cond t (fieldAt b s (at + 1)) NoWhole ≡ Whole z end → Stepped b s at z end
+      go : (t : Bool) → begins tab (drop at s) ≡ t → cond t (fieldAt (signedIn f) (largestIn f) s (at + 1)) NoWhole ≡ Whole size end → Stepped f s at size end
       go false h v = absurd (let z : _≡_ {A = ℕ} 0 1 = cc in omega arith)
       go true h v =
-          let field = field-read b s (at + 1) v in
+          let field = field-read (largestIn f) s (at + 1) (signedIn f) v in
           record {
+            number = field .number;
+            sized = field .sized;
             small = field .small;
             line = omega (arith, ap (λ (u : Bytes). length (lineIn u)) (tab-here s at h), line-tab (drop (at + 1) s), field .line);
-            left = λ fs. ap (numbersIn (holds b ∷ fs)) (tab-here s at h) ∙ field-left b fs s (at + 1) ∙ ap (left-by fs s) v;
+            left = λ fs. ap (numbersIn (readAs f ∷ fs)) (tab-here s at h) ∙ field .left fs;
           }
 
-  missing : r ≡ NoWhole → (fs : List Holds) → numbersIn (holds b ∷ fs) (drop at s) ≡ none
+  missing : r ≡ NoWhole → (fs : List Holds) → numbersIn (readAs f ∷ fs) (drop at s) ≡ none
   unfolding fieldAfter
   missing e fs = go (begins tab (drop at s)) refl (sym q ∙ e)
     where
-      go : (t : Bool) → begins tab (drop at s) ≡ t → cond t (fieldAt b s (at + 1)) NoWhole ≡ NoWhole → numbersIn (holds b ∷ fs) (drop at s) ≡ none
-      go false h v = no-tab (holds b) fs (drop at s) h
-      go true h v = ap (numbersIn (holds b ∷ fs)) (tab-here s at h) ∙ field-left b fs s (at + 1) ∙ ap (left-by fs s) v
+      go : (t : Bool) → begins tab (drop at s) ≡ t → cond t (fieldAt (signedIn f) (largestIn f) s (at + 1)) NoWhole ≡ NoWhole
+          → numbersIn (readAs f ∷ fs) (drop at s) ≡ none
+      go false h v = no-tab (readAs f) fs (drop at s) h
+      go true h v = ap (numbersIn (readAs f ∷ fs)) (tab-here s at h) ∙ field-none (largestIn f) s (at + 1) (signedIn f) v fs
 
--- ---- which field may have a sign
-module _ (b : Bool) (i : ℕ) where
-  pub sign-second : i ≡ 1 → b ≡ signedAt b i
-  sign-second e = rw e
+held-small : (l : ℕ) (size : Size) (z : ℤ) → size ≡ sizeOf l z → Small z → Small (heldAs size)
+held-small l size z e h = subst (λ (x : Size). Small (heldAs x)) (sym e) (go (leb (natAbs z) l))
+  where
+    go : (b : Bool) → Small (heldAs (cond b (Within z) Above))
+    go true = h
+    go false = omega arith
 
-  pub sign-other : (i ≡ 1 → ⊥) → false ≡ signedAt b i
-  sign-other n = rw (ne-eqb i 1 n)
-
-pub ruleset sign-laws = (needs, sign-second, sign-other)
-
--- ---- the loop's invariant: the numbers of the fields before field i are read, the others are 0, and what is left of the line is read from `at` on
-pub record Reading (b : Bool) (count : ℕ) (s : Bytes) (start : ℕ) (numbers : List ℤ) (at i : ℕ) : Type 0 where
+-- ---- the loop's invariant: the numbers of the fields before field i are read, and held as they are held; the others are 0; what is left of the line is
+-- read from `at` on
+pub record Reading (count operands : ℕ) (least : ℤ) (largest third : ℕ) (s : Bytes) (start : ℕ) (numbers : List ℤ) (outside : Bool) (at i : ℕ) : Type 0 where
   few : count ≤ 3
   within : i ≤ count
   wide : length numbers ≡ 3
   small : (k : ℕ) → Small (getD numbers k (pos 0))
   free : (k : ℕ) → i ≤ k → getD numbers k (pos 0) ≡ pos 0
   line : line-end s start ≡ line-end s at
-  left : numbersIn (fieldsBy b count) (drop start s) ≡ Option·map (λ ms. take i numbers ++ ms) (numbersIn (drop i (fieldsBy b count)) (drop at s))
+  so-far : List ℤ
+  left : numbersIn (map readAs (described count (askedAt operands least largest third))) (drop start s)
+      ≡ Option·map (λ ms. so-far ++ ms) (numbersIn (map readAs (drop i (described count (askedAt operands least largest third)))) (drop at s))
+  found : (ms : List ℤ) → anyOutside (described count (askedAt operands least largest third)) (so-far ++ ms)
+      ≡ (outside || anyOutside (drop i (described count (askedAt operands least largest third))) ms)
+  held : (ms : List ℤ) → allHeld (described count (askedAt operands least largest third)) (so-far ++ ms)
+      ≡ take i numbers ++ allHeld (drop i (described count (askedAt operands least largest third))) ms
 
-pub reading-start : (b : Bool) (count : ℕ) (s : Bytes) (start : ℕ) → count ≤ 3 → Reading b count s start (pos 0 ∷ pos 0 ∷ pos 0 ∷ []) start 0
-reading-start b count s start few =
+pub reading-start : (count operands : ℕ) (least : ℤ) (largest third : ℕ) (s : Bytes) (start : ℕ) → count ≤ 3
+    → Reading count operands least largest third s start (pos 0 ∷ pos 0 ∷ pos 0 ∷ []) false start 0
+reading-start count operands least largest third s start few =
     record {
       few = few;
       within = omega arith;
@@ -220,7 +245,10 @@ reading-start b count s start few =
       small = λ k. rw (zero-at k) (omega arith);
       free = λ k h. zero-at k;
       line = refl;
-      left = front (numbersIn (fieldsBy b count) (drop start s));
+      so-far = [];
+      left = front (numbersIn (map readAs (described count (askedAt operands least largest third))) (drop start s));
+      found = λ ms. refl;
+      held = λ ms. refl;
     }
   where
     zero-at : (k : ℕ) → getD (pos 0 ∷ pos 0 ∷ pos 0 ∷ []) k (pos 0) ≡ pos 0
@@ -234,16 +262,16 @@ reading-start b count s start few =
     front (some ms) = refl
 
 -- field i of a description that has it
-field-of : (b : Bool) (count i : ℕ) → count ≤ 3 → i < count → drop i (fieldsBy b count) ≡ holds (signedAt b i) ∷ drop (suc i) (fieldsBy b count)
-field-of b zero i few h = absurd (omega arith)
-field-of b (suc n) zero few h = refl
-field-of b (suc zero) (suc i) few h = absurd (omega arith)
-field-of b (suc (suc n)) (suc zero) few h = refl
-field-of b (suc (suc zero)) (suc (suc i)) few h = absurd (omega arith)
-field-of b (suc (suc (suc n))) (suc (suc zero)) few h = refl
-field-of b (suc (suc (suc n))) (suc (suc (suc i))) few h = absurd (omega arith)
+field-of : (count i : ℕ) (asked : ℕ → Asked) → i < count → count ≤ 3 → drop i (described count asked) ≡ asked i ∷ drop (suc i) (described count asked)
+field-of zero i asked l few = absurd (omega arith)
+field-of (suc n) zero asked l few = refl
+field-of (suc zero) (suc i) asked l few = absurd (omega arith)
+field-of (suc (suc n)) (suc zero) asked l few = refl
+field-of (suc (suc zero)) (suc (suc i)) asked l few = absurd (omega arith)
+field-of (suc (suc (suc n))) (suc (suc zero)) asked l few = refl
+field-of (suc (suc (suc n))) (suc (suc (suc i))) asked l few = absurd (omega arith)
 
-fields-end : (n : ℕ) (fs : List Holds) → drop n (take n fs) ≡ []
+fields-end : (n : ℕ) (fs : List Asked) → drop n (take n fs) ≡ []
 fields-end zero fs = refl
 fields-end (suc n) [] = refl
 fields-end (suc n) (f ∷ fs) = fields-end n fs
@@ -260,67 +288,123 @@ cut-free (suc n) [] free k = refl
 cut-free (suc n) (z ∷ ns) free zero = refl
 cut-free (suc n) (z ∷ ns) free (suc k) = cut-free n ns (λ j h. free (suc j) (omega arith)) k
 
-module _ {b : Bool} {count : ℕ} {s : Bytes} {start : ℕ} {numbers : List ℤ} {at i : ℕ} (w : Reading b count s start numbers at i) where
-  -- what is left has field i first
-  next-left :
-      i < count →
-      numbersIn (fieldsBy b count) (drop start s)
-      ≡ Option·map (λ ms. take i numbers ++ ms) (numbersIn (holds (signedAt b i) ∷ drop (suc i) (fieldsBy b count)) (drop at s))
-  next-left l = w .left ∙ ap (λ (fs : List Holds). Option·map (λ ms. take i numbers ++ ms) (numbersIn fs (drop at s))) (field-of b count i (w .few) l)
+or-assoc : (a b c : Bool) → (a || (b || c)) ≡ ((a || b) || c)
+or-assoc true b c = refl
+or-assoc false b c = refl
 
-  module _ (l : i < count) (t : Bool) (p : t ≡ signedAt b i) (r : FieldAt) (q : r ≡ fieldAfter t s at) where
-    pub field-missing : (place : ℕ) → r ≡ NoWhole → NotOfForm 1 place ≡ numbersTo place (line-end s start) (numbersIn (fieldsBy b count) (drop start s))
-    field-missing place e =
-        let nothing = missing (signedAt b i) s at r (q ∙ ap (λ (v : Bool). fieldAfter v s at) p) e (drop (suc i) (fieldsBy b count)) in
-        rw (next-left l, nothing)
+-- the least as the machine holds it
+module _ {count operands : ℕ} (least : ℤ) (fits : SFits w64 least) {largest third : ℕ} {s : Bytes} {start : ℕ} {numbers : List ℤ} {outside : Bool} {at i : ℕ}
+    (w : Reading count operands (machine least) largest third s start numbers outside at i) where
+  abbrev asked : ℕ → Asked
+  asked = askedAt operands (machine least) largest third
 
-    pub field-more : (z : ℤ) (end : ℕ) → r ≡ Whole z end → Reading b count s start (set numbers i (machine z)) end (i + 1)
-    field-more z end e =
-        let field = stepped (signedAt b i) s at r (q ∙ ap (λ (v : Bool). fieldAfter v s at) p) e in
-        rw (small-held z (field .small), add-one i)
+  abbrev fs : List Asked
+  fs = described count asked
+
+  -- what the numbers of these fields come to
+  abbrev told : ℤ → ℕ → NumbersAt
+  told z place =
+      let gs = described count (askedAt operands z largest third) in
+      numbersTo gs place (line-end s start) (numbersIn (map readAs gs) (drop start s))
+
+  as-it-is : {r : NumbersAt} (place : ℕ) → r ≡ told (machine least) place → r ≡ told least place
+  as-it-is {r} place e = subst (λ (z : ℤ). r ≡ told z place) (toZ-ofZ w64 least fits) e
+
+  module _ (l : i < count) (b : Bool) (p : b ≡ signedAt operands (machine least) i) (most : ℕ) (m : most ≡ largestAt operands largest third i) (r : FieldAt)
+      (q : r ≡ fieldAfter b most s at) where
+    read-so : r ≡ fieldAfter (signedIn (asked i)) (largestIn (asked i)) s at
+    read-so =
+        q ∙ ap₂ (λ (v : Bool) (n : ℕ). fieldAfter v n s at) (p ∙ signed-in operands (machine least) largest third i) (m ∙ largest-in operands (machine least) largest third i)
+
+    -- what is left has field i first
+    next : drop i fs ≡ asked i ∷ drop (suc i) fs
+    next = field-of count i asked l (w .few)
+
+    next-left :
+        numbersIn (map readAs fs) (drop start s) ≡ Option·map (λ ms. w .so-far ++ ms) (numbersIn (readAs (asked i) ∷ map readAs (drop (suc i) fs)) (drop at s))
+    next-left = w .left ∙ ap (λ (gs : List Asked). Option·map (λ ms. w .so-far ++ ms) (numbersIn (map readAs gs) (drop at s))) next
+
+    pub field-missing : (place : ℕ) → r ≡ NoWhole → NotOfForm 1 place ≡ told least place
+    field-missing place e = as-it-is place (rw (next-left, missing (asked i) s at r read-so e (map readAs (drop (suc i) fs))))
+
+    pub field-more : (size : Size) (end : ℕ) → r ≡ Whole size end → (o : Bool) → o ≡ outsideAt operands (machine least) i size → (z : ℤ) → z ≡ heldAs size
+        → Reading count operands (machine least) largest third s start (set numbers i (machine z)) (outside || o) end (i + 1)
+    field-more size end e o out z is =
+        let field = stepped (asked i) s at r read-so e in
+        let few = held-small (largestIn (asked i)) size (field .number) (field .sized) (field .small) in
+        rw (is, small-held (heldAs size) few, add-one i)
         (record {
           few = w .few;
           within = omega arith;
-          wide = length-set numbers i z ∙ w .wide;
-          small = λ k. small-set (field .small) k;
-          free = λ k h. getD-set-other numbers i k z (pos 0) (λ f. omega arith) ∙ w .free k (omega arith);
+          wide = length-set numbers i (heldAs size) ∙ w .wide;
+          small = λ k. small-set few k;
+          free = λ k h. getD-set-other numbers i k (heldAs size) (pos 0) (λ f. omega arith) ∙ w .free k (omega arith);
           line = w .line ∙ field .line;
-          left = next-left l ∙ ap (Option·map (λ ms. take i numbers ++ ms)) (field .left (drop (suc i) (fieldsBy b count)))
-              ∙ in-front (take i numbers) z (numbersIn (drop (suc i) (fieldsBy b count)) (drop end s))
-              ∙ ap (λ (ns : List ℤ). Option·map (λ ms. ns ++ ms) (numbersIn (drop (suc i) (fieldsBy b count)) (drop end s))) (sym (take-suc-set numbers i z below));
+          so-far = w .so-far ++ (field .number ∷ []);
+          left = next-left ∙ ap (Option·map (λ ms. w .so-far ++ ms)) (field .left (map readAs (drop (suc i) fs)))
+              ∙ in-front (w .so-far) (field .number) (numbersIn (map readAs (drop (suc i) fs)) (drop end s));
+          found = λ ms. ap (anyOutside fs) (append-snoc (w .so-far) (field .number) ms) ∙ w .found (field .number ∷ ms)
+              ∙ ap (λ (gs : List Asked). outside || anyOutside gs (field .number ∷ ms)) next
+              ∙ or-assoc outside (outsideIn (asked i) (sizeIn (asked i) (field .number))) (anyOutside (drop (suc i) fs) ms)
+              ∙ ap (λ (u : Bool). (outside || u) || anyOutside (drop (suc i) fs) ms)
+              (ap (outsideIn (asked i)) (sym (field .sized)) ∙ sym (out ∙ outside-in operands (machine least) largest third i size));
+          held = λ ms. ap (allHeld fs) (append-snoc (w .so-far) (field .number) ms) ∙ w .held (field .number ∷ ms)
+              ∙ ap (λ (gs : List Asked). take i numbers ++ allHeld gs (field .number ∷ ms)) next
+              ∙ ap (λ (v : Size). take i numbers ++ (heldAs v ∷ allHeld (drop (suc i) fs) ms)) (sym (field .sized))
+              ∙ sym (append-snoc (take i numbers) (heldAs size) (allHeld (drop (suc i) fs) ms))
+              ∙ ap (λ (ns : List ℤ). ns ++ allHeld (drop (suc i) fs) ms) (sym (take-suc-set numbers i (heldAs size) below));
         })
       where
         below : i < length numbers
         below = omega (arith, w .wide, w .few)
 
-        small-set : Small z → (k : ℕ) → Small (getD (set numbers i z) k (pos 0))
-        small-set h k =
+        small-set : Small (heldAs size) → (k : ℕ) → Small (getD (set numbers i (heldAs size)) k (pos 0))
+        small-set few k =
             elim (ℕ-discrete k i) [
-              | yes f ↦ rw (f, getD-set-same numbers i z (pos 0) below) h
-              | no n ↦ rw (getD-set-other numbers i k z (pos 0) n) (w .small k)
+              | yes here ↦ rw (here, getD-set-same numbers i (heldAs size) (pos 0) below) few
+              | no n ↦ rw (getD-set-other numbers i k (heldAs size) (pos 0) n) (w .small k)
             ]
 
   -- every field is read
   module _ (l : count ≤ i) (t : Bool) (q : t ≡ begins lineFeed (drop at s)) where
-    all-left : numbersIn (fieldsBy b count) (drop start s) ≡ Option·map (λ ms. take count numbers ++ ms) (numbersIn [] (drop at s))
-    all-left =
-        let same : i ≡ count = omega (arith, w .within) in
-        rw (same, fields-end count (operand ∷ holds b ∷ operand ∷ [])) at (w .left)
+    none-left : drop i fs ≡ []
+    none-left = let same : i ≡ count = omega (arith, w .within) in rw same (fields-end count (asked 0 ∷ asked 1 ∷ asked 2 ∷ []))
 
-    pub not-closed : (place : ℕ) → t ≡ false → NotOfForm 1 place ≡ numbersTo place (line-end s start) (numbersIn (fieldsBy b count) (drop start s))
-    not-closed place h = rw (all-left, no-line-feed (drop at s) (sym q ∙ h))
+    all-left : numbersIn (map readAs fs) (drop start s) ≡ Option·map (λ ms. w .so-far ++ ms) (numbersIn [] (drop at s))
+    all-left = w .left ∙ ap (λ (gs : List Asked). Option·map (λ ms. w .so-far ++ ms) (numbersIn (map readAs gs) (drop at s))) none-left
 
-    number-at : (k : ℕ) → getD (take count numbers) k (pos 0) ≡ getD numbers k (pos 0)
-    number-at = cut-free count numbers (λ k h. w .free k (omega arith))
+    pub not-closed : (place : ℕ) → t ≡ false → NotOfForm 1 place ≡ told least place
+    not-closed place h = as-it-is place (rw (all-left, no-line-feed (drop at s) (sym q ∙ h)))
 
-    pub is-closed :
-        (place : ℕ) → t ≡ true →
-        Numbers (machine (getD numbers 0 (pos 0))) (machine (getD numbers 1 (pos 0))) (machine (getD numbers 2 (pos 0))) at
-        ≡ numbersTo place (line-end s start) (numbersIn (fieldsBy b count) (drop start s))
-    is-closed place h =
-        let closes : begins lineFeed (drop at s) ≡ true = sym q ∙ h in
-        let ends : line-end s start ≡ at = omega (arith, w .line, line-feed-here (drop at s) closes) in
-        rw (all-left, line-feed (drop at s) closes, append-nil (take count numbers), ends, number-at 0, number-at 1, number-at 2)
-        (rw (small-held (getD numbers 0 (pos 0)) (w .small 0), small-held (getD numbers 1 (pos 0)) (w .small 1), small-held (getD numbers 2 (pos 0)) (w .small 2)))
+    module _ (place : ℕ) (h : t ≡ true) where
+      closes : begins lineFeed (drop at s) ≡ true
+      closes = sym q ∙ h
 
-pub ruleset loop-laws = (needs, not-true, not-false, reading-start, field-missing, field-more, not-closed, is-closed)
+      all-read : numbersIn (map readAs fs) (drop start s) ≡ some (w .so-far ++ [])
+      all-read = all-left ∙ rw (line-feed (drop at s) closes)
+
+      found-all : anyOutside fs (w .so-far ++ []) ≡ outside
+      found-all = w .found [] ∙ ap (λ (gs : List Asked). outside || anyOutside gs []) none-left ∙ or-false outside
+        where
+          or-false : (b : Bool) → (b || false) ≡ b
+          or-false true = refl
+          or-false false = refl
+
+      held-all : allHeld fs (w .so-far ++ []) ≡ take i numbers
+      held-all = w .held [] ∙ ap (λ (gs : List Asked). take i numbers ++ allHeld gs []) none-left ∙ append-nil (take i numbers)
+
+      -- the numbers as they are held
+      held-at : (k : ℕ) → machine (getD numbers k (pos 0)) ≡ getD (allHeld fs (w .so-far ++ [])) k (pos 0)
+      held-at k =
+          small-held (getD numbers k (pos 0)) (w .small k) ∙ sym (ap (λ (ns : List ℤ). getD ns k (pos 0)) held-all ∙ cut-free i numbers (w .free) k)
+
+      pub all-told : (r : NumbersAt)
+          → r ≡ cond outside OutOfRange (Numbers (machine (getD numbers 0 (pos 0))) (machine (getD numbers 1 (pos 0))) (machine (getD numbers 2 (pos 0))) at)
+          → r ≡ told least place
+      all-told r e =
+          let ends : line-end s start ≡ at = omega (arith, w .line, line-feed-here (drop at s) closes) in
+          let as-held : cond outside OutOfRange (Numbers (machine (getD numbers 0 (pos 0))) (machine (getD numbers 1 (pos 0))) (machine (getD numbers 2 (pos 0))) at)
+          ≡ cond outside OutOfRange (numbersFrom (allHeld fs (w .so-far ++ [])) at) = λ i. cond outside OutOfRange (Numbers (held-at 0 i) (held-at 1 i) (held-at 2 i) at) in
+          as-it-is place (e ∙ as-held ∙ sym (rw (all-read, found-all, ends)))
+
+pub ruleset loop-laws = (needs, not-true, not-false, reading-start, field-missing, field-more, not-closed, all-told)

@@ -1,52 +1,43 @@
--- Ranges, operands and kinds of a line, by its word and the numbers after it. Assumes nothing.
-use Prim.Native.Nat.{ℕ, zero, suc, _+_, _≤_}
+-- Operands and kinds of a line, by its word and the numbers after it, and its numbers in a record. Assumes nothing.
+use Prim.Native.Nat.{ℕ, _+_, _/_, _%_}
 use native.Mathlib.Omega.{arith}
 use mathlib.Core.Path.{_≡_, refl, sym, ap, ap₂, _∙_, subst}
-use mathlib.Core.Bool.{Bool, true, false, not, _&&_, _||_}
+use mathlib.Core.Bool.{Bool, true, false, _&&_}
 use mathlib.Core.List.{List, [], _∷_, map}
 use borrow.Author.Needs.{needs}
 use borrow.Author.Tests.{not-true, not-false}
-use lib.Dec.{T, leb, leb→le}
-use lib.IntN.{ℤ, pos, negsuc, negℤ, natAbs}
-use lib.Signed.{leZ, nonNeg}
-use lib.ListN.{length, getD, length-take}
-use mir.Syntax.{w16, w64}
+use lib.Dec.{T}
+use lib.IntN.{ℤ, pos, negsuc, natAbs}
+use lib.Signed.{nonNeg}
+use lib.ListN.{getD}
+use mir.Syntax.{w16, w32, w64}
 use mir.Val.{Fits, SFits, toZ, ofZ}
 use mir.ValLaws.{toZ-ofZ}
 use Rattle.ints.specs.Parts.{positive}
-use Rattle.rows.specs.Fields.{Holds, operand, ranged, upToTop, amount}
-use Rattle.rows.specs.Forms.{Said}
 use Rattle.rows.specs.Rows as Rows
 use Rattle.rows.specs.Rows.{placeOf, refused}
-use Rattle.rows.proofs.FieldLaws.{Natural, number, Held, Fields, no-field, field, Bounded, greatest}
 use Rattle.model.specs.declared.Grammar.{Grammar}
-use Rattle.model.specs.declared.Header.{Header}
 use Rattle.model.specs.declared.Kind.{Kind}
 use Rattle.model.specs.declared.Kind.the-variants.{Nothing}
 use Rattle.model.specs.declared.Line.{Line}
+use Rattle.model.specs.declared.Line.the-variants as Lines
 use Rattle.model.specs.declared.Word.{Word}
-use Rattle.model.specs.declared.Word.the-variants.{Rot}
-use Rattle.model.specs.Scales.{headerInRange}
-use Rattle.model.specs.Words.{Asks, noOperand, aCiphertext, aConstant, aPair, entry, hasWord}
+use Rattle.model.specs.declared.Word.the-variants.{Const, Rot}
+use Rattle.model.specs.Words.{Asks, noOperand, aCiphertext, aConstant, aPair, entry}
 use Rattle.model.specs.Numbering.{sameWord}
-use Rattle.model.specs.Files.{lineOf, isWord, inRange, operands, kindAt, isCiphertext, isConstant, isUsable, isPair, everyUsable, asksFor, kindsFit}
-use Rattle.model.proofs.Tests.{and-first, and-second, header-facts}
-use Rattle.model.proofs.EveryWord.{each-word, every-word, same-word}
-use Rattle.text.proofs.WordLaws.{said-line}
-use Rattle.text.proofs.FormLaws.{line-bounded}
-use Rattle.forms.proofs.TextLaws.{isSigned, numbers-held}
-use Rattle.tables.specs.Records.{amountFrom, linesOf, linesHeld}
-use Rattle.tables.proofs.Words.{line-word}
+use Rattle.model.specs.Files.{lineOf, operands, kindAt, isCiphertext, isConstant, isUsable, isPair, everyUsable, asksFor, kindsFit}
+use Rattle.model.proofs.EveryWord.{each-word, same-word}
+use Rattle.tables.specs.Records.{amountFrom, secondHeld}
+use Rattle.tables.proofs.Words.{line-word, halves-line}
 use Rattle.words.specs.declared.OperandsAsked.{OperandsAsked}
 use Rattle.words.specs.declared.OperandsAsked.the-variants.{NoOperand, Ciphertext, Constant, Pair}
 use Rattle.words.specs.Words.{operandsAsked, rowOf}
 use Rattle.judging.specs.declared.kinds.Fitness.{Fitness}
 use Rattle.judging.specs.declared.kinds.Fitness.the-variants.{Fit, Unusable, WrongKind}
-use Rattle.judging.specs.Judging as Judging
-use Rattle.judging.specs.Judging.{fitness, usableBy, kindsFitBy, fitnessBy, secondHeld, SecondFits, NumbersFit, NumbersRead}
 use Rattle.judging.specs.declared.LineRead.{LineRead}
 use Rattle.judging.specs.declared.LineRead.the-variants.{Good}
-use Rattle.judging.specs.Judging.{lineRead, lineTo, judgedAs}
+use Rattle.judging.specs.Judging as Judging
+use Rattle.judging.specs.Judging.{fitness, usableBy, kindsFitBy, fitnessBy, SecondFits, NumbersFit, lineRead, lineTo, judgedAs}
 
 ap₃ : {A B C D : Type 0} (f : A → B → C → D) {x x′ : A} {y y′ : B} {z z′ : C} → x ≡ x′ → y ≡ y′ → z ≡ z′ → f x y z ≡ f x′ y′ z′
 ap₃ f p q r = λ i. f (p i) (q i) (r i)
@@ -144,13 +135,38 @@ pub ruleset number-laws = (needs, amount-fits, amount-held, number-unsigned, num
 abbrev machine : ℤ → ℤ
 machine z = toZ w64 (ofZ w64 z)
 
-pub stored-line :
-    (w : Word) (a b c : ℤ) → SFits w64 a → SFits w64 b → SFits w64 c → NumbersFit w a b c → (m : ℕ) → secondHeld w m ≡ machine b → (end : ℕ) →
-    lineRead w (Good (natAbs (machine a)) m (natAbs (machine c)) end) ≡ Rows.read (lineOf w (a ∷ b ∷ c ∷ []), end)
-stored-line w a b c sa sb sc fit m e end =
-    ap₃ (λ (x y z : ℤ). Rows.read (lineOf w (x ∷ y ∷ z ∷ []), end)) (whole a sa (fit .one .unsigned)) (e ∙ toZ-ofZ w64 b sb) (whole c sc (fit .three .unsigned))
+module _ (w : Word) (a b c : ℤ) (sa : SFits w64 a) (sb : SFits w64 b) (sc : SFits w64 c) (fit : NumbersFit w a b c) (t : Bool) (q : t ≡ sameWord w Const) where
+  pub first-unsigned : T (nonNeg (machine a))
+  first-unsigned = natural-unsigned a sa (fit .one .unsigned)
 
-pub ruleset stored-laws = (needs, stored-line)
+  -- a constant number in two of them
+  module _ (h : t ≡ true) where
+    pub constant-fits : Fits w32 (natAbs (machine a))
+    constant-fits = rw (toZ-ofZ w64 a sa) (fit .one .constant (sym q ∙ h))
+
+    pub constant-line : (low high : ℕ) → low ≡ natAbs (machine a) % 65536 → high ≡ natAbs (machine a) / 65536 → (end : ℕ)
+        → lineRead w (Good low high 0 end) ≡ Rows.read (lineOf w (a ∷ b ∷ c ∷ []), end)
+    constant-line low high l k end =
+        rw (same-word w Const (subst T (sym h ∙ q) tt), l, k)
+        (ap (λ (x : Line). Rows.read (x, end)) (halves-line (natAbs (machine a)) ∙ ap Lines.Const (magnitude a sa (fit .one .unsigned))))
+
+  module _ (h : t ≡ false) where
+    pub first-fits : Fits w16 (natAbs (machine a))
+    first-fits = rw (toZ-ofZ w64 a sa) (fit .one .number (sym q ∙ h))
+
+    pub third-unsigned : T (nonNeg (machine c))
+    third-unsigned = natural-unsigned c sc (fit .three .unsigned)
+
+    pub third-fits : Fits w16 (natAbs (machine c))
+    third-fits = rw (toZ-ofZ w64 c sc) (fit .three .fits)
+
+    pub stored-line : (m : ℕ) → secondHeld w m ≡ machine b → (end : ℕ)
+        → lineRead w (Good (natAbs (machine a)) m (natAbs (machine c)) end) ≡ Rows.read (lineOf w (a ∷ b ∷ c ∷ []), end)
+    stored-line m e end =
+        rw (← q, h)
+        (ap₃ (λ (x y z : ℤ). Rows.read (lineOf w (x ∷ y ∷ z ∷ []), end)) (whole a sa (fit .one .unsigned)) (e ∙ toZ-ofZ w64 b sb) (whole c sc (fit .three .unsigned)))
+
+pub ruleset stored-laws = (needs, not-true, not-false, first-unsigned, constant-fits, constant-line, first-fits, third-unsigned, third-fits, stored-line)
 
 -- ---- a line's operands are its first numbers, by what its word asks
 abbrev operandsBy : OperandsAsked → ℕ → ℕ → List ℕ
@@ -187,98 +203,7 @@ first-three w ns = each-word (λ v. lineOf v ns) (λ v. lineOf v (getD ns 0 (pos
 pub line-of-three : (w : Word) (ns : List ℤ) {a b c : ℤ} → a ≡ getD ns 0 (pos 0) → b ≡ getD ns 1 (pos 0) → c ≡ getD ns 2 (pos 0) → lineOf w (a ∷ b ∷ c ∷ []) ≡ lineOf w ns
 line-of-three w ns p q r = ap₃ (λ (x y z : ℤ). lineOf w (x ∷ y ∷ z ∷ [])) p q r ∙ sym (first-three w ns)
 
--- ---- numbers that were read: which have no sign, and which fit a record
-natural-at : {fs : List Holds} {ns : List ℤ} → Fields Held fs ns → (j : ℕ) → T (not (isSigned (getD fs j operand))) → T (nonNeg (getD ns j (pos 0)))
-natural-at no-field j t = tt
-natural-at (field {f = f} {n = n} {fs = fs} {ns = ns} h hs) (suc j) t = natural-at hs j t
-natural-at (field {f = f} {n = n} h hs) zero t = here f n h t
-  where
-    unsigned : {n : ℤ} → Natural n → T (nonNeg n)
-    unsigned (number m) = tt
-
-    here : (f : Holds) (n : ℤ) → Held f n → T (not (isSigned f)) → T (nonNeg n)
-    here operand n h t = unsigned h
-    here (ranged low high) n h t = unsigned h
-    here upToTop n h t = unsigned h
-    here (amount most) n h t = absurd t
-
-abbrev allLow : List Holds → Bool
-allLow [] = true
-allLow (f ∷ fs) = leb (greatest 60 1792 f) 65535 && allLow fs
-
-low-at : {fs : List Holds} {ns : List ℤ} → Fields (Bounded 60 1792) fs ns → T (allLow fs) → (j : ℕ) → natAbs (getD ns j (pos 0)) ≤ 65535
-low-at no-field t j = omega arith
-low-at (field {f = f} {n = n} {fs = fs} b bs) t zero =
-    let most = leb→le (greatest 60 1792 f) 65535 (and-first (leb (greatest 60 1792 f) 65535) (allLow fs) t) in
-    let bound = b .bound in
-    omega arith
-low-at (field {f = f} {fs = fs} b bs) t (suc j) = low-at bs (and-second (leb (greatest 60 1792 f) 65535) (allLow fs) t) j
-
-module _ {w : Word} {a b c : ℤ} (read : NumbersRead w a b c) where
-  fields-held : Fields Held (entry w .fields) (read .numbers)
-  fields-held = numbers-held (entry w .fields) (read .text) (read .read)
-
-  first-natural : T (nonNeg a)
-  first-natural = subst (λ (z : ℤ). T (nonNeg z)) (sym (read .one)) (natural-at fields-held 0 (every-word (λ v. not (isSigned (getD (entry v .fields) 0 operand))) tt w))
-
-  third-natural : T (nonNeg c)
-  third-natural = subst (λ (z : ℤ). T (nonNeg z)) (sym (read .three)) (natural-at fields-held 2 (every-word (λ v. not (isSigned (getD (entry v .fields) 2 operand))) tt w))
-
-  second-natural : sameWord w Rot ≡ false → T (nonNeg b)
-  second-natural e = subst (λ (z : ℤ). T (nonNeg z)) (sym (read .two))
-      (natural-at fields-held 1 (plain (every-word (λ v. sameWord v Rot || not (isSigned (getD (entry v .fields) 1 operand))) tt w)))
-    where
-      plain : T (sameWord w Rot || not (isSigned (getD (entry w .fields) 1 operand))) → T (not (isSigned (getD (entry w .fields) 1 operand)))
-      plain t = subst (λ (u : Bool). T (u || not (isSigned (getD (entry w .fields) 1 operand)))) e t
-
-  read-line : lineOf w (a ∷ b ∷ c ∷ []) ≡ lineOf w (read .numbers)
-  read-line = line-of-three w (read .numbers) (read .one) (read .two) (read .three)
-
--- ---- ranges and operands show that the numbers fit
-module _ (h : Header) (top : T (headerInRange h)) (lines : List Line) (few : length lines ≤ 1792) {w : Word} {a b c : ℤ} (read : NumbersRead w a b c)
-    (range : T (inRange h (lineOf w (a ∷ b ∷ c ∷ [])))) (usable : T (everyUsable lines (operands (lineOf w (a ∷ b ∷ c ∷ []))))) where
-  bounded : Fields (Bounded 60 1792) (entry w .fields) (read .numbers)
-  bounded =
-      subst (λ (s : Said Word). Fields (Bounded 60 1792) (entry (s .word) .fields) (s .numbers)) (said-line w (fields-held read))
-      (line-bounded h (header-facts h top) lines (lineOf w (read .numbers)) (subst (λ (x : Line). T (inRange h x)) (read-line read) range)
-      (subst (λ (x : Line). T (everyUsable lines (operands x))) (read-line read) usable) 1792 few)
-
-  low : (j : ℕ) → natAbs (getD (read .numbers) j (pos 0)) ≤ 65535
-  low j = low-at bounded (every-word (λ v. allLow (entry v .fields)) tt w) j
-
-  fits-at : (z : ℤ) (j : ℕ) → z ≡ getD (read .numbers) j (pos 0) → Fits w16 (natAbs z)
-  fits-at z j e = let most = low j in record { fits = omega (arith, ap natAbs e) }
-
-  second-number : SecondFits w b
-  second-number =
-      record {
-        amount = λ e. rotation (same-word w Rot (subst T (sym e) tt));
-        number = λ e. record { unsigned = second-natural read e; fits = fits-at b 1 (read .two) };
-      }
-    where
-      amount-short : (z : ℤ) → T (leZ (negℤ (pos 32767)) z && leZ z (pos 32767)) → SFits w16 z
-      amount-short (pos n) r = record { sfits = omega (arith, leb→le n 32767 r) }
-      amount-short (negsuc n) r = record { sfits = omega (arith, leb→le n 32766 (and-first (leb n 32766) true r)) }
-
-      rotation : w ≡ Rot → SFits w16 b
-      rotation e = amount-short b (subst (λ (v : Word). T (inRange h (lineOf v (a ∷ b ∷ c ∷ [])))) e range)
-
-  numbers-fit : NumbersFit w a b c
-  numbers-fit =
-      record {
-        one = record { unsigned = first-natural read; fits = fits-at a 0 (read .one) };
-        two = second-number;
-        three = record { unsigned = third-natural read; fits = fits-at c 2 (read .three) };
-      }
-
 -- ---- the verdict, test by test
--- after such lines, the numbers of a line with this word fit its record
-pub record Fitting (g : Grammar) (h : Header) (lines : List Line) (w : Word) (a b c : ℤ) : Type 0 where
-  pub fit : NumbersFit w a b c
-
-pub held-few : (records : List (List ℕ)) (count : ℕ) → count ≤ 1792 → length (linesHeld records count) ≤ 1792
-held-few records count few = omega (arith, length-take count (linesOf records))
-
 -- what was found tells which tests are passed
 record Both (u k fits : Bool) : Type 0 where
   usable : u ≡ true
@@ -299,71 +224,44 @@ when-fit false k e = absurd (let z : _≡_ {A = ℕ} 0 1 = cc in omega arith)
 when-fit true false e = absurd (let z : _≡_ {A = ℕ} 0 1 = cc in omega arith)
 when-fit true true e = record { usable = refl; kinds = refl }
 
-module _ (g : Grammar) (h : Header) (w : Word) (a b c : ℤ) (t : Bool) (q : t ≡ inRange h (lineOf w (machine a ∷ machine b ∷ machine c ∷ [])))
-    (told : NumbersRead w a b c) (has : T (hasWord g w)) (sa : SFits w64 a) (sb : SFits w64 b) (sc : SFits w64 c) where
-  -- the machine's numbers are the line's
-  same-line : lineOf w (machine a ∷ machine b ∷ machine c ∷ []) ≡ lineOf w (a ∷ b ∷ c ∷ [])
-  same-line = ap₃ (λ (x y z : ℤ). lineOf w (x ∷ y ∷ z ∷ [])) (toZ-ofZ w64 a sa) (toZ-ofZ w64 b sb) (toZ-ofZ w64 c sc)
+module _ (g : Grammar) (w : Word) (a b c : ℤ) (sa : SFits w64 a) (sb : SFits w64 b) (lines : List Line) where
+  every-usable : everyUsable lines (operands (lineOf w (a ∷ b ∷ c ∷ []))) ≡ usableBy (rowOf w .asks) (kindAt lines (positive a)) (kindAt lines (positive b))
+  every-usable = ap (everyUsable lines) (operands-are a b c w) ∙ usable-operands lines (rowOf w .asks) (positive a) (positive b)
 
-  word-passes : isWord g (lineOf w (a ∷ b ∷ c ∷ [])) ≡ true
-  word-passes = ap (hasWord g) (line-word w (a ∷ b ∷ c ∷ [])) ∙ true-is (hasWord g w) has
-    where
-      true-is : (u : Bool) → T u → u ≡ true
-      true-is true t = refl
-      true-is false t = absurd t
+  kinds-fit : kindsFit g lines (lineOf w (a ∷ b ∷ c ∷ [])) ≡ kindsFitBy g (rowOf w .asks) (kindAt lines (positive a)) (kindAt lines (positive b))
+  kinds-fit =
+      ap₂ (λ (s : Asks) (l : List ℕ). asksFor g s (getD (map (kindAt lines) l) 0 Nothing) (getD (map (kindAt lines) l) 1 Nothing))
+      (ap (λ (v : Word). entry v .asks) (line-word w (a ∷ b ∷ c ∷ []))) (operands-are a b c w)
+      ∙ fit-asked g lines (entry w .asks) (positive a) (positive b)
 
-  in-range : inRange h (lineOf w (a ∷ b ∷ c ∷ [])) ≡ t
-  in-range = sym (q ∙ ap (inRange h) same-line)
+  module _ (asked : OperandsAsked) (i : asked ≡ rowOf w .asks) (f : Fitness)
+      (q : f ≡ fitnessBy g asked (kindAt lines (positive (machine a))) (kindAt lines (positive (machine b)))) where
+    abbrev usable : Bool
+    usable = everyUsable lines (operands (lineOf w (a ∷ b ∷ c ∷ [])))
 
-  module _ (lines : List Line) where
-    pub out-of-range : (n end : ℕ) → t ≡ false → refused 11 (n + 2) ≡ lineTo (placeOf n) end (judgedAs g h lines (lineOf w (a ∷ b ∷ c ∷ [])))
+    abbrev kinds : Bool
+    kinds = kindsFit g lines (lineOf w (a ∷ b ∷ c ∷ []))
+
+    found : fitness usable kinds ≡ f
+    found =
+        ap₂ fitness every-usable kinds-fit
+        ∙ sym (q ∙ ap₃ (λ (v : OperandsAsked) (x y : ℤ). fitnessBy g v (kindAt lines (positive x)) (kindAt lines (positive y))) i (toZ-ofZ w64 a sa) (toZ-ofZ w64 b sb))
+
+    pub not-usable : (n end : ℕ) → f ≡ Unusable → refused 4 (n + 2) ≡ lineTo (placeOf n) end (judgedAs g lines (lineOf w (a ∷ b ∷ c ∷ [])))
     unfolding judgedAs
-    out-of-range n end o = rw (word-passes, in-range, o)
+    not-usable n end e = rw (when-unusable usable kinds (found ∙ e))
 
-    every-usable : everyUsable lines (operands (lineOf w (a ∷ b ∷ c ∷ []))) ≡ usableBy (rowOf w .asks) (kindAt lines (positive a)) (kindAt lines (positive b))
-    every-usable = ap (everyUsable lines) (operands-are a b c w) ∙ usable-operands lines (rowOf w .asks) (positive a) (positive b)
+    pub not-fit : (n end : ℕ) → f ≡ WrongKind → refused 5 (n + 2) ≡ lineTo (placeOf n) end (judgedAs g lines (lineOf w (a ∷ b ∷ c ∷ [])))
+    unfolding judgedAs
+    not-fit n end e = let wrong = when-wrong usable kinds (found ∙ e) in rw (wrong .usable, wrong .kinds)
 
-    kinds-fit : kindsFit g lines (lineOf w (a ∷ b ∷ c ∷ [])) ≡ kindsFitBy g (rowOf w .asks) (kindAt lines (positive a)) (kindAt lines (positive b))
-    kinds-fit =
-        ap₂ (λ (s : Asks) (l : List ℕ). asksFor g s (getD (map (kindAt lines) l) 0 Nothing) (getD (map (kindAt lines) l) 1 Nothing))
-        (ap (λ (v : Word). entry v .asks) (line-word w (a ∷ b ∷ c ∷ []))) (operands-are a b c w)
-        ∙ fit-asked g lines (entry w .asks) (positive a) (positive b)
+    pub fits : (n end : ℕ) (r : LineRead) → f ≡ Fit → lineRead w r ≡ Rows.read (lineOf w (a ∷ b ∷ c ∷ []), end)
+        → lineRead w r ≡ lineTo (placeOf n) end (judgedAs g lines (lineOf w (a ∷ b ∷ c ∷ [])))
+    unfolding judgedAs
+    fits n end r e is = let passed = when-fit usable kinds (found ∙ e) in rw (passed .usable, passed .kinds) is
 
-    module _ (o : t ≡ true) (asked : OperandsAsked) (i : asked ≡ rowOf w .asks) (f : Fitness)
-        (q′ : f ≡ fitnessBy g asked (kindAt lines (positive (machine a))) (kindAt lines (positive (machine b)))) where
-      abbrev usable : Bool
-      usable = everyUsable lines (operands (lineOf w (a ∷ b ∷ c ∷ [])))
-
-      abbrev kinds : Bool
-      kinds = kindsFit g lines (lineOf w (a ∷ b ∷ c ∷ []))
-
-      found : fitness usable kinds ≡ f
-      found =
-          ap₂ fitness every-usable kinds-fit
-          ∙ sym (q′ ∙ ap₃ (λ (v : OperandsAsked) (x y : ℤ). fitnessBy g v (kindAt lines (positive x)) (kindAt lines (positive y))) i (toZ-ofZ w64 a sa) (toZ-ofZ w64 b sb))
-
-      pub not-usable : (n end : ℕ) → f ≡ Unusable → refused 4 (n + 2) ≡ lineTo (placeOf n) end (judgedAs g h lines (lineOf w (a ∷ b ∷ c ∷ [])))
-      unfolding judgedAs
-      not-usable n end e = rw (word-passes, in-range, o, when-unusable usable kinds (found ∙ e))
-
-      pub not-fit : (n end : ℕ) → f ≡ WrongKind → refused 5 (n + 2) ≡ lineTo (placeOf n) end (judgedAs g h lines (lineOf w (a ∷ b ∷ c ∷ [])))
-      unfolding judgedAs
-      not-fit n end e = let wrong = when-wrong usable kinds (found ∙ e) in rw (word-passes, in-range, o, wrong .usable, wrong .kinds)
-
-      module _ (e : f ≡ Fit) where
-        passed : Both usable kinds true
-        passed = when-fit usable kinds (found ∙ e)
-
-        pub fitting : T (headerInRange h) → length lines ≤ 1792 → Fitting g h lines w a b c
-        fitting top few = record { fit = numbers-fit h top lines few told (subst T (sym (in-range ∙ o)) tt) (subst T (sym (passed .usable)) tt) }
-
-        pub fits : (n end : ℕ) (r : LineRead) → lineRead w r ≡ Rows.read (lineOf w (a ∷ b ∷ c ∷ []), end)
-            → lineRead w r ≡ lineTo (placeOf n) end (judgedAs g h lines (lineOf w (a ∷ b ∷ c ∷ [])))
-        unfolding judgedAs
-        fits n end r e = rw (word-passes, in-range, o, passed .usable, passed .kinds) e
-
-pub second-asked : (w : Word) (a b c : ℤ) → NumbersRead w a b c → SFits w64 b → (ops : OperandsAsked) → ops ≡ rowOf w .asks → ops ≡ Pair → T (nonNeg (machine b))
-second-asked w a b c told s ops i e = natural-unsigned b s (second-natural told (go (sameWord w Rot) refl))
+pub second-asked : (w : Word) (a b c : ℤ) → NumbersFit w a b c → SFits w64 b → (ops : OperandsAsked) → ops ≡ rowOf w .asks → ops ≡ Pair → T (nonNeg (machine b))
+second-asked w a b c fit s ops i e = natural-unsigned b s (fit .two .number (go (sameWord w Rot) refl) .unsigned)
   where
     go : (u : Bool) → sameWord w Rot ≡ u → sameWord w Rot ≡ false
     go false q = q
@@ -372,23 +270,7 @@ second-asked w a b c told s ops i e = natural-unsigned b s (second-natural told 
         let other : Ciphertext ≡ Pair = ap (λ (v : Word). rowOf v .asks) (sym rot) ∙ sym i ∙ e in
         absurd (let z : _≡_ {A = ℕ} 0 1 = cc in omega arith)
 
-pub first-asked : (w : Word) (a b c : ℤ) → NumbersRead w a b c → SFits w64 a → T (nonNeg (machine a))
-first-asked w a b c told s = natural-unsigned a s (first-natural told)
+pub first-asked : (w : Word) (a b c : ℤ) → NumbersFit w a b c → SFits w64 a → T (nonNeg (machine a))
+first-asked w a b c fit s = natural-unsigned a s (fit .one .unsigned)
 
-pub first-wide : (w : Word) (a b c : ℤ) → NumbersRead w a b c → SFits w64 a → Fits w64 (natAbs (machine a))
-first-wide w a b c told s = natural-fits a s (first-natural told)
-
-pub ruleset verdicts = (
-  needs,
-  not-true,
-  not-false,
-  held-few,
-  first-asked,
-  first-wide,
-  second-asked,
-  out-of-range,
-  not-usable,
-  fitting,
-  not-fit,
-  fits,
-)
+pub ruleset verdicts = (needs, not-true, not-false, first-asked, second-asked, not-usable, not-fit, fits)

@@ -1,3 +1,2 @@
 mod KindLaws
-mod RangeLaws
 pub mod JudgeLaws

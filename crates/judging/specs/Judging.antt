@@ -2,28 +2,23 @@
 -- record, and what an answer says of a line.
 use Prim.Native.Nat.{ℕ}
 use mathlib.Core.Bool.{Bool, true, false, cond, _&&_}
-use mathlib.Core.List.{List}
-use mathlib.Core.Option.{some}
+use mathlib.Core.List.{List, [], _∷_}
 use mathlib.Core.Path.{_≡_}
 use lib.Dec.{T}
-use lib.IntN.{ℤ, pos, natAbs}
-use lib.ListN.{getD}
+use lib.IntN.{ℤ, natAbs}
 use lib.Signed.{nonNeg}
-use mir.Syntax.{w16}
+use mir.Syntax.{w16, w32}
 use mir.Val.{Fits, SFits}
-use Rattle.fields.specs.Pieces.{Bytes}
-use Rattle.rows.specs.Rows.{Judgement, Reading, read, refused, judged, at}
+use Rattle.rows.specs.Rows.{Judgement, Reading, read, refused, Tests, judged, at}
 use Rattle.model.specs.declared.Grammar.{Grammar}
-use Rattle.model.specs.declared.Header.{Header}
 use Rattle.model.specs.declared.Line.{Line}
 use Rattle.model.specs.declared.Kind.{Kind}
 use Rattle.model.specs.declared.Word.{Word}
-use Rattle.model.specs.declared.Word.the-variants.{Rot}
-use Rattle.model.specs.Words.{noOperand, aCiphertext, aConstant, aPair, entry}
+use Rattle.model.specs.declared.Word.the-variants.{Const, Rot}
+use Rattle.model.specs.Words.{noOperand, aCiphertext, aConstant, aPair}
 use Rattle.model.specs.Numbering.{sameWord}
-use Rattle.model.specs.Files.{isUsable, asksFor, lineTests}
-use Rattle.forms.specs.Along.{numbersIn}
-use Rattle.tables.specs.Records.{amountFrom, lineWith}
+use Rattle.model.specs.Files.{operands, isUsable, everyUsable, asksFor, kindsFit}
+use Rattle.tables.specs.Records.{lineWith}
 use Rattle.words.specs.declared.OperandsAsked.{OperandsAsked}
 use Rattle.words.specs.declared.OperandsAsked.the-variants.{NoOperand, Ciphertext, Constant, Pair}
 use Rattle.judging.specs.declared.LineRead.{LineRead}
@@ -53,29 +48,22 @@ abbrev pub fitnessBy : Grammar → OperandsAsked → Kind → Kind → Fitness
 fitnessBy g asked j k = fitness (usableBy asked j k) (kindsFitBy g asked j k)
 
 -- ---- a line's numbers
--- they were read of the fields after the word; past them there is 0
-pub record NumbersRead (w : Word) (first second third : ℤ) : Type 0 where
-  pub text : Bytes
-  pub numbers : List ℤ
-  pub read : numbersIn (entry w .fields) text ≡ some numbers
-  pub one : first ≡ getD numbers 0 (pos 0)
-  pub two : second ≡ getD numbers 1 (pos 0)
-  pub three : third ≡ getD numbers 2 (pos 0)
-
--- the second number of a record, with a sign where it is a rotation's amount
-abbrev pub secondHeld : Word → ℕ → ℤ
-secondHeld w b = cond (sameWord w Rot) (amountFrom b) (pos b)
-
+-- they fit what a record has for them: a constant number two of its numbers, a rotation's amount one with a sign, each other number one
 pub record Natural (z : ℤ) : Type 0 where
   pub unsigned : T (nonNeg z)
   pub fits : Fits w16 (natAbs z)
+
+pub record FirstFits (w : Word) (z : ℤ) : Type 0 where
+  pub unsigned : T (nonNeg z)
+  pub constant : sameWord w Const ≡ true → Fits w32 (natAbs z)
+  pub number : sameWord w Const ≡ false → Fits w16 (natAbs z)
 
 pub record SecondFits (w : Word) (z : ℤ) : Type 0 where
   pub amount : sameWord w Rot ≡ true → SFits w16 z
   pub number : sameWord w Rot ≡ false → Natural z
 
 pub record NumbersFit (w : Word) (first second third : ℤ) : Type 0 where
-  pub one : Natural first
+  pub one : FirstFits w first
   pub two : SecondFits w second
   pub three : Natural third
 
@@ -88,5 +76,9 @@ lineRead w (Lines.Bad n place) = refused n place
 abbrev pub lineTo : ℕ → ℕ → Judgement Line → Reading (Line × ℕ)
 lineTo place end j = at place j (λ x. read (x, end))
 
-unfoldable pub judgedAs : Grammar → Header → List Line → Line → Judgement Line
-judgedAs g h done x = judged (lineTests g h done x) x
+-- "per line … 4, 5"
+abbrev pub operandTests : Grammar → List Line → Line → Tests
+operandTests g done x = (4, everyUsable done (operands x)) ∷ (5, kindsFit g done x) ∷ []
+
+unfoldable pub judgedAs : Grammar → List Line → Line → Judgement Line
+judgedAs g done x = judged (operandTests g done x) x

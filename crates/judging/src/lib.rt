@@ -1,29 +1,23 @@
-// Ranges, operands and kinds of a line that is of the form, in this order; and what its record then holds.
+// Operands and kinds of a line that is of the form and whose numbers are in their ranges, in this order; and what its record then holds.
 pub mod kinds;
 
 use kinds::Fitness;
 use model::Grammar;
-use model::Header;
 use model::Word;
 use tables::Record;
 use words::OperandsAsked;
 ghost use mathlib.Core.Path.{_≡_};
 ghost use mathlib.Core.List.{[], _∷_};
-ghost use mathlib.Core.Bool.{_&&_};
 ghost use Prim.Native.Nat.{_≤_};
 ghost use lib.Dec.{T};
-ghost use lib.IntN.{pos, negℤ};
-ghost use lib.Signed.{leZ, nonNeg};
+ghost use lib.Signed.{nonNeg};
 ghost use lib.ListN.{length};
 ghost use Rattle.ints.specs.Parts.{positive};
-ghost use Rattle.rows.specs.Fields.{within};
 ghost use Rattle.rows.specs.Rows.{placeOf, read};
-ghost use Rattle.model.specs.Scales.{headerInRange};
-ghost use Rattle.model.specs.Words.{hasWord};
-ghost use Rattle.model.specs.Files.{lineOf, inRange, kindAt};
-ghost use Rattle.tables.specs.Records.{linesHeld};
+ghost use Rattle.model.specs.Files.{lineOf, kindAt};
+ghost use Rattle.tables.specs.Records.{secondHeld, linesHeld};
 ghost use Rattle.words.specs.Words.{rowOf};
-ghost use Rattle.judging.specs.Judging.{lineRead, lineTo, judgedAs, fitnessBy, secondHeld, SecondFits, NumbersFit, NumbersRead};
+ghost use Rattle.judging.specs.Judging.{lineRead, lineTo, judgedAs, fitnessBy, SecondFits, NumbersFit};
 
 // A line that was read: what its record holds after the word's number, and the place past its line feed; or a refusal.
 pub enum LineRead {
@@ -31,7 +25,8 @@ pub enum LineRead {
     Bad { number: u32, place: u32 },
 }
 
-// A line that is of the form: its word, what that asks of its operands, the numbers of its fields, 0 past them, and the place past its line feed.
+// A line that is of the form and whose numbers are in their ranges: its word, what that asks of its operands, the numbers of its fields, 0 past them, and
+// the place past its line feed.
 pub struct FormedLine {
     pub word: Word,
     pub asks: OperandsAsked,
@@ -59,49 +54,6 @@ pub fn formed(
         second,
         third,
         end,
-    }
-}
-
-// From 1 to most.
-pub fn up_to(most: u32, n: i64) -> bool
-    ensures { λ r. ⌜ r ≡ within 1 most (positive n) ⌝ }
-{
-    if n < 1 {
-        return false;
-    }
-    n <= most as i64
-}
-
-fn amount_in_range(amount: i64) -> bool
-    ensures { λ r. ⌜ r ≡ (leZ (negℤ (pos 32767)) amount && leZ amount (pos 32767)) ⌝ }
-{
-    if amount < -32767 {
-        return false;
-    }
-    amount <= 32767
-}
-
-fn in_range(header: Header, word: Word, first: i64, second: i64, third: i64) -> bool
-    ensures { λ r. ⌜ r ≡ inRange header (lineOf word (first ∷ second ∷ third ∷ [])) ⌝ }
-{
-    match word {
-        Word::In => true,
-        Word::Const => first <= 65535,
-        Word::Neg => true,
-        Word::Rot => amount_in_range(second),
-        Word::Add => true,
-        Word::Mul => true,
-        Word::Out => true,
-        Word::Enc => {
-            if !up_to(3600, second) {
-                return false;
-            }
-            up_to(header.top, third)
-        }
-        Word::Rs => up_to(60, second),
-        Word::Ms => up_to(60, second),
-        Word::Us => up_to(3600, second),
-        Word::NoWord => true,
     }
 }
 
@@ -152,6 +104,15 @@ fn stored(line: FormedLine) -> LineRead
     ensures { λ r. ⌜ lineRead (line .word) r ≡ read (lineOf (line .word) (line .first ∷ line .second ∷ line .third ∷ []), line .end) ⌝ }
 {
     let word = line.word;
+    if words::takes_constant(word) {
+        let number = line.first as u32;
+        return LineRead::Good {
+            a: tables::low_half(number),
+            b: tables::high_half(number),
+            c: 0,
+            end: line.end,
+        };
+    }
     LineRead::Good {
         a: line.first as u16,
         b: second_number(word, line.second),
@@ -160,28 +121,16 @@ fn stored(line: FormedLine) -> LineRead
     }
 }
 
-// A line after those of the first `count` records. Its numbers are made smaller only when ranges and operands show that they fit.
-pub fn judge(
-    grammar: Grammar,
-    header: Header,
-    records: &[Record],
-    count: usize,
-    line: FormedLine,
-) -> LineRead
-    requires { ⌜ T (headerInRange header) ⌝ }
+// A line after those of the first `count` records.
+pub fn judge(grammar: Grammar, records: &[Record], count: usize, line: FormedLine) -> LineRead
     requires { ⌜ count ≤ length (now records) ⌝ }
     requires { ⌜ count ≤ 1792 ⌝ }
-    requires { ⌜ T (hasWord grammar (line .word)) ⌝ }
     requires { ⌜ line .asks ≡ rowOf (line .word) .asks ⌝ }
-    requires { ⌜ NumbersRead (line .word) (line .first) (line .second) (line .third) ⌝ }
-    ensures { λ r. ⌜ lineRead (line .word) r ≡ lineTo (placeOf count) (line .end) (judgedAs grammar header (linesHeld (now (records .entry)) count) (lineOf (line .word) (line .first ∷ line .second ∷ line .third ∷ []))) ⌝ }
+    requires { ⌜ NumbersFit (line .word) (line .first) (line .second) (line .third) ⌝ }
+    ensures { λ r. ⌜ lineRead (line .word) r ≡ lineTo (placeOf count) (line .end) (judgedAs grammar (linesHeld (now (records .entry)) count) (lineOf (line .word) (line .first ∷ line .second ∷ line .third ∷ []))) ⌝ }
 {
     let place = (count as u32) + 2;
-    let word = line.word;
     let asks = line.asks;
-    if !in_range(header, word, line.first, line.second, line.third) {
-        return LineRead::Bad { number: 11, place };
-    }
     match operands_fit(grammar, asks, records, count, line.first, line.second) {
         Fitness::Unusable => LineRead::Bad { number: 4, place },
         Fitness::WrongKind => LineRead::Bad { number: 5, place },

@@ -12,7 +12,7 @@ pub fn put_fields(out: &mut [u8], at: usize, line: Line) -> usize
 {
     match line {
         Line::In => spelling::put_bytes(out, at, b"in"),
-        Line::Const(k) => spelling::put_one(out, at, b"const", k as u32),
+        Line::Const(k) => spelling::put_one(out, at, b"const", k),
         Line::Neg(a) => spelling::put_one(out, at, b"neg", a as u32),
         Line::Rot(a, t) => spelling::put_rot(out, at, b"rot", a as u32, t),
         Line::Add(a, b) => spelling::put_two(out, at, b"add", a as u32, b as u32),
@@ -39,7 +39,7 @@ pub fn fields_len(line: Line) -> usize
 {
     match line {
         Line::In => 2,
-        Line::Const(k) => spelling::one_len(b"const", k as u32),
+        Line::Const(k) => spelling::one_len(b"const", k),
         Line::Neg(a) => spelling::one_len(b"neg", a as u32),
         Line::Rot(a, t) => spelling::rot_len(b"rot", a as u32, t),
         Line::Add(a, b) => spelling::two_len(b"add", a as u32, b as u32),

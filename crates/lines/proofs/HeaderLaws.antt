@@ -2,38 +2,43 @@
 use Prim.Native.Nat.{ℕ, _+_, _≤_}
 use native.Mathlib.Omega.{arith}
 use mathlib.Core.Path.{_≡_, refl, sym, ap, ap₂, _∙_, subst}
-use mathlib.Core.Bool.{Bool, true, false, cond, _&&_}
-use mathlib.Core.List.{List, [], _∷_}
+use mathlib.Core.Bool.{Bool, true, false, cond, not, _&&_}
+use mathlib.Core.List.{List, [], _∷_, map}
 use mathlib.Core.Option.{Option, none, some, Option·map}
 use borrow.Author.Needs.{needs}
 use borrow.Author.Tests.{not-true, not-false}
 use lib.Dec.{T, leb, leb→le}
 use lib.IntN.{ℤ, pos, negsuc, natAbs}
 use lib.Signed.{nonNeg}
-use lib.ListN.{length, getD, drop, length-drop}
+use lib.ListN.{length, drop, length-drop}
 use mir.Syntax.{w32, w64}
 use mir.Val.{Fits, SFits, toZ, ofZ}
 use mir.ValLaws.{toZ-ofZ}
 use Rattle.ints.specs.Parts.{positive}
 use Rattle.fields.specs.Pieces.{Bytes, tab, split, sameBytes}
 use Rattle.fields.proofs.PieceLaws.{same-bytes}
-use Rattle.rows.specs.Fields.{within}
+use Rattle.rows.specs.Fields.{within, allInRange}
 use Rattle.rows.specs.Forms.{afterWord}
-use Rattle.rows.specs.Rows.{bad, read, refused, Tests, formed}
+use Rattle.rows.specs.Rows.{good, bad, read, refused, Tests, formed}
+use Rattle.rows.proofs.FieldLaws.{Held, Fields, no-field, field}
 use Rattle.model.specs.declared.Grammar.{Grammar}
 use Rattle.model.specs.declared.Grammar.the-variants.{Circuit, Schedule}
 use Rattle.model.specs.declared.Header.{Header}
 use Rattle.model.specs.Scales.{headerFields, headerInRange}
+use Rattle.model.specs.Words.{operandsAmong}
+use Rattle.model.specs.Files.{everyUsable}
 use Rattle.model.proofs.Tests.{and-first, and-second}
-use Rattle.text.specs.Files.{headerWord, headerOf, headerForm}
+use Rattle.text.specs.Files.{headerWord, headerOf}
+use Rattle.text.proofs.FormLaws.{header-made}
 use Rattle.forms.specs.declared.NumbersAt.{NumbersAt}
-use Rattle.forms.specs.declared.NumbersAt.the-variants.{Numbers, NotOfForm}
-use Rattle.forms.specs.Along.{lineIn, isClosed, fieldIn, numbersIn, fieldsBy, numbersTo}
+use Rattle.forms.specs.declared.NumbersAt.the-variants.{Numbers, NotOfForm, OutOfRange}
+use Rattle.forms.specs.Along.{lineIn, isClosed, fieldIn, numbersIn}
+use Rattle.forms.specs.Asked.{Asked, askedAt, described, readAs, anyOutside, numbersTo}
 use Rattle.forms.proofs.WordLaws.{uncut, field-line}
-use Rattle.forms.proofs.TextLaws.{titled-reads, alike, alike-numbers, numbers-closed}
-use Rattle.lines.specs.declared.headers.HeaderRead.{HeaderRead}
-use Rattle.lines.specs.Lines.{headerRead, headerTo, rangedHeader, headerJudged}
-use Rattle.lines.proofs.ReadLaws.{Answered, answered, not-told, Told, told, told-end}
+use Rattle.forms.proofs.TextLaws.{titled-reads, alike, alike-numbers, numbers-closed, numbers-held}
+use Rattle.lines.specs.Lines.{headerTo, headerJudged}
+use Rattle.lines.proofs.HeldLaws.{askedOf, all-in, all-same}
+use Rattle.lines.proofs.ReadLaws.{Answered, answered, not-told, told-outside, Told, told}
 
 -- ---- the word
 module _ (g : Grammar) (t : Bytes) (r : Bool) where
@@ -43,7 +48,7 @@ module _ (g : Grammar) (t : Bytes) (r : Bool) where
   pub schedule-word : g ≡ Schedule → r ≡ sameBytes (fieldIn t) (headerWord Schedule) → r ≡ sameBytes (fieldIn t) (headerWord g)
   schedule-word e q = rw e q
 
--- ---- the ranges, of numbers as the machine holds them
+-- ---- numbers in their ranges, as the machine holds them
 abbrev machine : ℤ → ℤ
 machine z = toZ w64 (ofZ w64 z)
 
@@ -85,56 +90,22 @@ pub record HeaderFits (f w l : ℤ) : Type 0 where
   pub waterline : Ranged w
   pub top : Ranged l
 
-module _ (f w l : ℤ) (sf : SFits w64 f) (sw : SFits w64 w) (sl : SFits w64 l) where
-  module _ (t : Bool) (q : t ≡ within 1 60 (positive (machine f))) where
-    factor-in : t ≡ within 1 60 (positive f)
-    factor-in = rw (toZ-ofZ w64 f sf) at q
+module _ (f w l : ℤ) (sf : SFits w64 f) (sw : SFits w64 w) (sl : SFits w64 l) (ranged : T (headerInRange (header f w l))) where
+  others : T (within 1 60 (positive w) && within 1 60 (positive l))
+  others = and-second (within 1 60 (positive f)) (within 1 60 (positive w) && within 1 60 (positive l)) ranged
 
-    pub factor-out : t ≡ false → false ≡ headerInRange (header f w l)
-    factor-out h = rw (← factor-in, h)
+  all-fit : HeaderFits f w l
+  all-fit =
+      record {
+        factor = number f sf (and-first (within 1 60 (positive f)) (within 1 60 (positive w) && within 1 60 (positive l)) ranged);
+        waterline = number w sw (and-first (within 1 60 (positive w)) (within 1 60 (positive l)) others);
+        top = number l sl (and-second (within 1 60 (positive w)) (within 1 60 (positive l)) others);
+      }
 
-    module _ (h : t ≡ true) (u : Bool) (q′ : u ≡ within 1 60 (positive (machine w))) where
-      waterline-in : u ≡ within 1 60 (positive w)
-      waterline-in = rw (toZ-ofZ w64 w sw) at q′
+  as-held : record { factor = natAbs (machine f); waterline = natAbs (machine w); top = natAbs (machine l) } ≡ header f w l
+  as-held = λ i. record { factor = all-fit .factor .is i; waterline = all-fit .waterline .is i; top = all-fit .top .is i }
 
-      pub waterline-out : u ≡ false → false ≡ headerInRange (header f w l)
-      waterline-out h′ = rw (← factor-in, h, ← waterline-in, h′)
-
-      pub top-decides : u ≡ true → (r : Bool) → r ≡ within 1 60 (positive (machine l)) → r ≡ headerInRange (header f w l)
-      top-decides h′ r e = rw (← factor-in, h, ← waterline-in, h′) (rw (toZ-ofZ w64 l sl) at e)
-
-  module _ (t : Bool) (q : t ≡ headerInRange (header (machine f) (machine w) (machine l))) where
-    same-header : header (machine f) (machine w) (machine l) ≡ header f w l
-    same-header = λ i. header (toZ-ofZ w64 f sf i) (toZ-ofZ w64 w sw i) (toZ-ofZ w64 l sl i)
-
-    all-ranged : t ≡ headerInRange (header f w l)
-    all-ranged = q ∙ ap headerInRange same-header
-
-    pub out-of-range : (end : ℕ) → t ≡ false → refused 2 1 ≡ headerTo end (rangedHeader (header f w l))
-    out-of-range end h = rw (← all-ranged, h)
-
-    module _ (h : t ≡ true) where
-      ranged : T (headerInRange (header f w l))
-      ranged = subst T (sym h ∙ all-ranged) tt
-
-      others : T (within 1 60 (positive w) && within 1 60 (positive l))
-      others = and-second (within 1 60 (positive f)) (within 1 60 (positive w) && within 1 60 (positive l)) ranged
-
-      pub all-fit : HeaderFits f w l
-      all-fit =
-          record {
-            factor = number f sf (and-first (within 1 60 (positive f)) (within 1 60 (positive w) && within 1 60 (positive l)) ranged);
-            waterline = number w sw (and-first (within 1 60 (positive w)) (within 1 60 (positive l)) others);
-            top = number l sl (and-second (within 1 60 (positive w)) (within 1 60 (positive l)) others);
-          }
-
-      pub all-in : (end : ℕ)
-          → read (record { factor = natAbs (machine f); waterline = natAbs (machine w); top = natAbs (machine l) }, end) ≡ headerTo end (rangedHeader (header f w l))
-      all-in end =
-          rw (← all-ranged, h)
-          (λ i. read (record { factor = all-fit .factor .is i; waterline = all-fit .waterline .is i; top = all-fit .top .is i }, end))
-
-pub ruleset range-laws = (needs, not-true, not-false, circuit-word, schedule-word, factor-out, waterline-out, top-decides, out-of-range, all-fit, all-in)
+pub ruleset word-laws = (needs, circuit-word, schedule-word)
 
 -- ---- the header line that a text begins with is judged by its word and the fields after it
 abbrev tests : Header → Tests
@@ -169,36 +140,74 @@ module _ (g : Grammar) (t : Bytes) (u : Bool) (q : u ≡ sameBytes (fieldIn t) (
     line-end : start + length (lineIn (drop start t)) ≡ length (lineIn t)
     line-end = sym (field-line t ∙ rw past-word)
 
-    module _ (r : NumbersAt) (p : r ≡ numbersTo 1 (start + length (lineIn (drop start t))) (numbersIn (fieldsBy false 3) (drop start t))) where
-      answer : Answered 1 (start + length (lineIn (drop start t))) (numbersIn headerFields (drop start t)) r
-      unfolding alike
+    -- what is asked of the header's fields
+    abbrev gs : List Asked
+    gs = map (askedOf 0) headerFields
+
+    abbrev end : ℕ
+    end = start + length (lineIn (drop start t))
+
+    module _ (r : NumbersAt) (p : r ≡ numbersTo (described 3 (askedAt 0 (pos 1) 60 60)) 1 end (numbersIn (map readAs (described 3 (askedAt 0 (pos 1) 60 60))) (drop start t))) where
+      answer : Answered gs 1 end (numbersIn headerFields (drop start t)) r
+      unfolding alike askedAt
       answer =
-          answered 1 (start + length (lineIn (drop start t))) (numbersIn headerFields (drop start t)) r
-          (p ∙ ap (numbersTo 1 (start + length (lineIn (drop start t)))) (sym (alike-numbers headerFields (fieldsBy false 3) (drop start t) tt)))
+          answered gs 1 end (numbersIn headerFields (drop start t)) r
+          (p ∙ ap (numbersTo gs 1 end) (sym (alike-numbers headerFields (map readAs gs) (drop start t) tt)))
 
       pub no-form : (m n : ℕ) → r ≡ NotOfForm m n → refused m n ≡ headerTo (length (lineIn t) + 1) (headerJudged g t)
       no-form m n is =
-          let nothing = not-told headerFields (drop start t) 1 (start + length (lineIn (drop start t))) r answer is in
+          let nothing = not-told answer is in
           let refuses : headerJudged g t ≡ bad 1 = judged-after ∙ rw (nothing .nothing) in
           rw (nothing .number, nothing .where-it-is) (sym (ap (headerTo (length (lineIn t) + 1)) refuses))
 
-      module _ (x y z : ℤ) (e : ℕ) (is : r ≡ Numbers x y z e) where
-        numbers-told : Told headerFields (drop start t) x y z
-        numbers-told = told headerFields (drop start t) 1 (start + length (lineIn (drop start t))) r answer is
+      -- a header that was read is in its ranges if no number is outside them
+      module _ (ns : List ℤ) (read : numbersIn headerFields (drop start t) ≡ some ns) where
+        held : Fields Held headerFields ns
+        held = numbers-held headerFields (drop start t) read
 
-        end-told : e ≡ start + length (lineIn (drop start t))
-        end-told = told-end headerFields (drop start t) 1 (start + length (lineIn (drop start t))) r answer is
+        range : headerInRange (headerOf ns) ≡ not (anyOutside gs ns)
+        range = ap (allInRange 0 headerFields) (header-made held) ∙ all-in 0 held
+
+        judged-so : headerJudged g t ≡ cond (not (anyOutside gs ns)) (good (headerOf ns)) (bad 2)
+        judged-so = judged-after ∙ rw (read, range)
+
+      pub out-of-range : r ≡ OutOfRange → refused 2 1 ≡ headerTo (length (lineIn t) + 1) (headerJudged g t)
+      out-of-range is =
+          let o = told-outside answer is in
+          let refuses : headerJudged g t ≡ bad 2 = judged-so (o .given) (o .read) ∙ rw (o .outside) in
+          sym (ap (headerTo (length (lineIn t) + 1)) refuses)
+
+      module _ (x y z : ℤ) (e : ℕ) (is : r ≡ Numbers x y z e) where
+        numbers-told : Told gs (numbersIn headerFields (drop start t)) end x y z e
+        numbers-told = told answer is
 
         pub past-within : e + 1 ≤ length t
-        past-within = omega (arith, length-drop start t, end-told, numbers-closed headerFields (drop start t) (numbers-told .read))
+        past-within = omega (arith, length-drop start t, numbers-told .ends, numbers-closed headerFields (drop start t) (numbers-told .read))
 
-        pub header-judged : (a : HeaderRead) → headerRead a ≡ headerTo (e + 1) (rangedHeader (header (machine x) (machine y) (machine z)))
-            → headerRead a ≡ headerTo (length (lineIn t) + 1) (headerJudged g t)
-        header-judged a j =
-            let same : header (machine x) (machine y) (machine z) ≡ headerOf (numbers-told .given) =
-            λ i. header (numbers-told .first i) (numbers-told .second i) (numbers-told .third i) in
-            let judged : headerJudged g t ≡ rangedHeader (headerOf (numbers-told .given)) = judged-after ∙ rw (numbers-told .read) in
-            j ∙ ap₂ (λ (m : ℕ) (v : Header). headerTo (m + 1) (rangedHeader v)) (end-told ∙ line-end) same
-            ∙ sym (ap (headerTo (length (lineIn t) + 1)) judged)
+        given-held : Fields Held headerFields (numbers-told .given)
+        given-held = held (numbers-told .given) (numbers-told .read)
 
-pub ruleset header-laws = (needs, not-true, not-false, other-word, no-form, header-judged)
+        -- no field is an operand, so each number is held as it is
+        as-given : header x y z ≡ headerOf (numbers-told .given)
+        as-given =
+            (λ i. header (numbers-told .first i) (numbers-told .second i) (numbers-told .third i))
+            ∙ ap headerOf (all-same 0 (omega arith) [] (omega arith) given-held (numbers-told .inside) (no-operands given-held))
+          where
+            no-operands : {ns : List ℤ} → Fields Held headerFields ns → T (everyUsable [] (operandsAmong headerFields ns))
+            no-operands (field f (field w (field l no-field))) = tt
+
+        header-ranged : T (headerInRange (header x y z))
+        header-ranged = subst T (sym (ap headerInRange as-given ∙ range (numbers-told .given) (numbers-told .read) ∙ ap not (numbers-told .inside))) tt
+
+        module _ (sx : SFits w64 x) (sy : SFits w64 y) (sz : SFits w64 z) where
+          pub header-fits : HeaderFits x y z
+          header-fits = all-fit x y z sx sy sz header-ranged
+
+          pub header-read : read (record { factor = natAbs (machine x); waterline = natAbs (machine y); top = natAbs (machine z) }, e + 1)
+              ≡ headerTo (length (lineIn t) + 1) (headerJudged g t)
+          header-read =
+              let judged : headerJudged g t ≡ good (headerOf (numbers-told .given)) = judged-so (numbers-told .given) (numbers-told .read) ∙ rw (numbers-told .inside) in
+              ap₂ (λ (v : Header) (m : ℕ). read (v, m + 1)) (as-held x y z sx sy sz header-ranged ∙ as-given) (numbers-told .ends ∙ line-end)
+              ∙ sym (ap (headerTo (length (lineIn t) + 1)) judged)
+
+pub ruleset header-laws = (needs, not-true, not-false, other-word, no-form, out-of-range, header-fits, header-read)

@@ -1,3 +1,4 @@
 pub mod LineLaws
+mod HeldLaws
 mod ReadLaws
 mod HeaderLaws

@@ -3,14 +3,12 @@ use forms::NumbersAt;
 use model::Grammar;
 use model::Header;
 ghost use mathlib.Core.Path.{_≡_};
-ghost use mathlib.Core.List.{[], _∷_};
 ghost use Prim.Native.Nat.{_+_};
 ghost use lib.ListN.{length};
 ghost use Rattle.fields.specs.Pieces.{sameBytes};
-ghost use Rattle.model.specs.Scales.{headerInRange};
-ghost use Rattle.text.specs.Files.{headerWord, headerOf};
+ghost use Rattle.text.specs.Files.{headerWord};
 ghost use Rattle.forms.specs.Along.{lineIn, fieldIn};
-ghost use Rattle.lines.specs.Lines.{headerRead, headerJudged, headerTo, rangedHeader};
+ghost use Rattle.lines.specs.Lines.{headerRead, headerJudged, headerTo};
 
 // A header line that was read, and the place past its line feed; or a refusal.
 pub enum HeaderRead {
@@ -38,38 +36,6 @@ fn header_end(grammar: Grammar) -> usize
     }
 }
 
-fn in_range(factor: i64, waterline: i64, top: i64) -> bool
-    ensures { λ r. ⌜ r ≡ headerInRange (headerOf (factor ∷ waterline ∷ top ∷ [])) ⌝ }
-{
-    if !judging::up_to(60, factor) {
-        return false;
-    }
-    if !judging::up_to(60, waterline) {
-        return false;
-    }
-    judging::up_to(60, top)
-}
-
-// In range, each number fits the header's 32 bits.
-fn ranged(factor: i64, waterline: i64, top: i64, end: usize) -> HeaderRead
-    ensures { λ r. ⌜ headerRead r ≡ headerTo end (rangedHeader (headerOf (factor ∷ waterline ∷ top ∷ []))) ⌝ }
-{
-    if !in_range(factor, waterline, top) {
-        return HeaderRead::Bad {
-            number: 2,
-            place: 1,
-        };
-    }
-    HeaderRead::Head {
-        header: Header {
-            factor: factor as u32,
-            waterline: waterline as u32,
-            top: top as u32,
-        },
-        end,
-    }
-}
-
 // The header line that a text begins with.
 pub fn read_header(grammar: Grammar, text: &[u8]) -> HeaderRead
     ensures { λ r. ⌜ headerRead r ≡ headerTo (length (lineIn (now (text .entry))) + 1) (headerJudged grammar (now (text .entry))) ⌝ }
@@ -80,13 +46,24 @@ pub fn read_header(grammar: Grammar, text: &[u8]) -> HeaderRead
             place: 1,
         };
     }
-    match forms::numbers_at(1, text, header_end(grammar), 3, false) {
+    match forms::numbers_at(1, text, header_end(grammar), 3, 0, 1, 60, 60) {
         NumbersAt::NotOfForm { number, place } => HeaderRead::Bad { number, place },
+        NumbersAt::OutOfRange => HeaderRead::Bad {
+            number: 2,
+            place: 1,
+        },
         NumbersAt::Numbers {
             first,
             second,
             third,
             end,
-        } => ranged(first, second, third, end + 1),
+        } => HeaderRead::Head {
+            header: Header {
+                factor: first as u32,
+                waterline: second as u32,
+                top: third as u32,
+            },
+            end: end + 1,
+        },
     }
 }

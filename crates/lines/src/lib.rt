@@ -8,17 +8,37 @@ use model::Grammar;
 use model::Header;
 use tables::Record;
 use words::WordAt;
+use words::WordRow;
 ghost use mathlib.Core.Path.{_≡_};
+ghost use mathlib.Core.List.{map};
 ghost use Prim.Native.Nat.{_+_, _≤_};
 ghost use lib.Dec.{T};
 ghost use lib.ListN.{length, drop};
 ghost use Rattle.rows.specs.Rows.{placeOf};
 ghost use Rattle.model.specs.Scales.{headerInRange};
-ghost use Rattle.forms.specs.Along.{lineIn};
+ghost use Rattle.forms.specs.Along.{lineIn, numbersIn};
+ghost use Rattle.forms.specs.Asked.{readAs, numbersTo};
 ghost use Rattle.tables.specs.Records.{linesHeld};
 ghost use Rattle.words.specs.Words.{rowOf};
 ghost use Rattle.judging.specs.Judging.{lineRead, lineTo};
-ghost use Rattle.lines.specs.Lines.{wordJudged};
+ghost use Rattle.lines.specs.Lines.{askedBy, wordJudged};
+
+// The numbers of the fields that a word's row describes, in a file with this top level.
+fn numbers_of(place: u32, text: &[u8], start: usize, row: WordRow, top: u32) -> NumbersAt
+    requires { ⌜ row .fields ≤ 3 ⌝ }
+    ensures { λ r. ⌜ r ≡ numbersTo (askedBy row top) place (start + length (lineIn (drop start (now (text .entry))))) (numbersIn (map readAs (askedBy row top)) (drop start (now (text .entry)))) ⌝ }
+{
+    forms::numbers_at(
+        place,
+        text,
+        start,
+        row.fields,
+        row.operands,
+        row.least,
+        row.largest,
+        top,
+    )
+}
 
 // One line, after those of the first `count` records, by the word that it begins with.
 pub fn read_line(
@@ -42,9 +62,9 @@ pub fn read_line(
     }
     let row = found.row;
     let asks = row.asks;
-    let signed = words::takes_amount(word);
-    match forms::numbers_at(place, text, found.end, row.fields, signed) {
+    match numbers_of(place, text, found.end, row, header.top) {
         NumbersAt::NotOfForm { number, place } => LineRead::Bad { number, place },
+        NumbersAt::OutOfRange => LineRead::Bad { number: 11, place },
         NumbersAt::Numbers {
             first,
             second,
@@ -52,7 +72,7 @@ pub fn read_line(
             end,
         } => {
             let line = judging::formed(word, asks, first, second, third, end + 1);
-            judging::judge(grammar, header, records, count, line)
+            judging::judge(grammar, records, count, line)
         }
     }
 }

@@ -6,7 +6,7 @@ use mathlib.Core.List.{List, [], _∷_, _++_, zipWith}
 use lib.Dec.{T}
 use lib.ListN.{length, getD}
 use Rattle.model.specs.Scales.{headroom}
-use Rattle.model.specs.Worked.{Case, inputFormed, allFormed, endsOf, machineCases, planCases, cases, noCase}
+use Rattle.model.specs.Worked.{Case, inputFormed, allFormed, endsOf, machineCases, planCases, constantCases, cases, noCase}
 use Rattle.model.proofs.Statements.WorkedCases as WorkedCases
 use Rattle.model.proofs.Tests.{and-first, and-second}
 
@@ -22,6 +22,9 @@ machines-tested = (refl, (refl, (refl, (refl, (refl, (refl, (refl, (refl, (refl,
 plans-tested : EndSo planCases
 unfolding headroom
 plans-tested = (refl, (refl, (refl, (refl, (refl, (refl, (refl, (refl, (refl, (refl, (refl, (refl, (refl, (refl, (refl, (refl, tt))))))))))))))))
+
+constants-tested : EndSo constantCases
+constants-tested = (refl, (refl, (refl, tt)))
 
 both-tested : (cs ds : List Case) → EndSo cs → EndSo ds → EndSo (cs ++ ds)
 both-tested [] ds t u = u
@@ -43,4 +46,6 @@ all-end-so (c ∷ cs) t (suc k) u = all-end-so cs (t .1) k (le-of-suc-le-suc u)
 
 -- every case of the table
 pub worked : WorkedCases.Statement
-worked k u = record { formed = all-formed cases formed k u; ends-so = all-end-so cases (both-tested machineCases planCases machines-tested plans-tested) k u }
+worked k u =
+    let tested = both-tested machineCases (planCases ++ constantCases) machines-tested (both-tested planCases constantCases plans-tested constants-tested) in
+    record { formed = all-formed cases formed k u; ends-so = all-end-so cases tested k u }

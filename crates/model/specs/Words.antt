@@ -41,13 +41,14 @@ shared word fs k a = record { bytes = ascii word; circuit = true; schedule = tru
 abbrev pub own : String → List Holds → Kind → Asks → Entry
 own word fs k a = record { bytes = ascii word; circuit = false; schedule = true; fields = fs; kind = k; asks = a }
 
--- Circuit: "`in`: a ciphertext input. `const K`: constant number K, 0 to 65535 … `neg A`. `rot A T` … T from −32767 to 32767. `add A B`.
--- `mul A B`. `out A`." Schedule: "those above and `enc A S E` (constant A encoded at scale S, 1 to 3600, level E, 1 to L), `rs A C` (C
--- rescales, 1 to 60), `ms A C` (C modswitches, 1 to 60), `us A B` (scale raised by B bits, 1 to 3600)." "Kinds: `neg`, `rot`, `out`, `rs`,
--- `ms`, `us` take a ciphertext and `enc` a constant. `add` and `mul` take two ciphertexts, or …"
+-- Circuit: "`in`: a ciphertext input. `const K`: constant number K … `neg A`. `rot A T` … T from −32767 to 32767. `add A B`. `mul A B`.
+-- `out A`." Schedule: "those above and `enc A S E` (constant A encoded at scale S, 1 to 3600, level E, 1 to L), `rs A C` (C rescales, 1 to
+-- 60), `ms A C` (C modswitches, 1 to 60), `us A B` (scale raised by B bits, 1 to 3600)." "Kinds: `neg`, `rot`, `out`, `rs`, `ms`, `us` take
+-- a ciphertext and `enc` a constant. `add` and `mul` take two ciphertexts, or …" Document 02, Job 1: "A constant number runs from 0 to
+-- 4294967295."
 abbrev pub entry : Word → Entry
 entry In = shared "in" [] Ciphertext noOperand
-entry Const = shared "const" (ranged 0 65535 ∷ []) Constant noOperand
+entry Const = shared "const" (ranged 0 4294967295 ∷ []) Constant noOperand
 entry Neg = shared "neg" (operand ∷ []) Ciphertext aCiphertext
 entry Rot = shared "rot" (operand ∷ amount 32767 ∷ []) Ciphertext aCiphertext
 entry Add = shared "add" (operand ∷ operand ∷ []) Ciphertext aPair

@@ -1,32 +1,35 @@
 -- Small files, as cases of one table: the two machines, to the end and each way in which the scale machine can stop on a well-formed
--- schedule; and plans that pin the clauses of "The plan" one by one. Document 01's own cases are rows of the services' table, on whole
--- files.
+-- schedule; plans that pin the clauses of "The plan" one by one; and constant numbers on both sides of their limit. Document 01's own cases
+-- are rows of the services' table, on whole files.
 use Prim.Native.Nat.{ℕ, _+_}
 use mathlib.Core.Path.{refl}
 use mathlib.Core.Bool.{Bool, true, _&&_}
 use mathlib.Core.List.{List, [], _∷_, _++_}
 use lib.Dec.{lit≤}
 use lib.IntN.{ℤ, pos, negsuc, _-ℤ_}
+use Rattle.rows.specs.Rows.{Judgement, good, bad, judged}
 use Rattle.model.specs.declared.Line.{Line}
 use Rattle.model.specs.declared.Line.the-variants.{In, Const, Neg, Rot, Add, Mul, Out, Enc, Rs, Ms, Us}
 use Rattle.model.specs.declared.Grammar.{Grammar}
 use Rattle.model.specs.declared.Grammar.the-variants.{Circuit, Schedule}
-use Rattle.model.specs.Files.{File, wellFormed}
+use Rattle.model.specs.Files.{File, lineTests, wellFormed}
 use Rattle.model.specs.Machine.{Run, finished, stopped, run}
 use Rattle.model.specs.Machines.{Vector, Handed, Holding, scaled, plainMachine, scaleMachine, timesTwoTo}
 use Rattle.model.specs.Machines.{Reason, levelsDiffer, scalesDiffer, remainder, belowWaterline, aboveModulus}
 use Rattle.model.specs.Services.{Planned, scheduled, unplanned, plan}
 
--- Run the scale machine on the schedule; run the plain machine on the circuit; plan the circuit.
+-- Run the scale machine on the schedule; run the plain machine on the circuit; plan the circuit; judge one line more of the circuit.
 pub data Asked : Type 0 where
   runs : Asked
   runsPlain : Asked
   plans : Asked
+  judges : Line → Asked
 
 pub data Ends : Type 0 where
   scaleRun : Run Holding Reason → Ends
   plainRun : Run Vector Reason → Ends
   planning : Planned → Ends
+  judging : Judgement Line → Ends
 
 pub record Case : Type 0 where
   pub input : File
@@ -38,6 +41,7 @@ abbrev pub grammarOf : Asked → Grammar
 grammarOf runs = Schedule
 grammarOf runsPlain = Circuit
 grammarOf plans = Circuit
+grammarOf (judges x) = Circuit
 
 -- What the machines are handed: three slots, input number k holding k + 1, k + 2 and k − 3, constant number k holding k, −1 and 2.
 abbrev pub handed : Handed
@@ -55,6 +59,7 @@ abbrev pub endsOf : Asked → File → Ends
 endsOf runs file = scaleRun (run (scaleMachine handed (file .header)) (file .lines))
 endsOf runsPlain file = plainRun (run (plainMachine handed) (file .lines))
 endsOf plans file = planning (plan file)
+endsOf (judges x) file = judging (judged (lineTests Circuit (file .header) (file .lines) x) x)
 
 abbrev pub inputFormed : Case → Bool
 inputFormed c = wellFormed (grammarOf (c .asked)) (c .input .header) (c .input .lines)
@@ -166,5 +171,13 @@ planCases =
     ∷ case (under 11 6 1 (In ∷ Mul 0 0 ∷ [])) plans (planning (unplanned 6 3))
     ∷ []
 
+-- Document 02, Job 1: "A constant number runs from 0 to 4294967295." A number of 17 bits, the largest, and one more.
+abbrev pub constantCases : List Case
+constantCases =
+    case (at 2 []) (judges (Const 65536)) (judging (good (Const 65536)))
+    ∷ case (at 2 []) (judges (Const 4294967295)) (judging (good (Const 4294967295)))
+    ∷ case (at 2 []) (judges (Const 4294967296)) (judging (bad 11))
+    ∷ []
+
 abbrev pub cases : List Case
-cases = machineCases ++ planCases
+cases = machineCases ++ planCases ++ constantCases

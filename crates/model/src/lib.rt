@@ -23,11 +23,11 @@ pub enum Word {
     NoWord,
 }
 
-// A line by its word; operands are value numbers. No number of a line that is read is above 65,535; definitions have whole numbers of any size
-// in their place. Free is no line: a record that holds none.
+// A line by its word; operands are value numbers. Of a line that is read a constant number has at most 32 bits and no other number more than 16;
+// definitions have whole numbers of any size in their place. Free is no line: a record that holds none.
 pub enum Line {
     In,
-    Const(u16),
+    Const(u32),
     Neg(u16),
     Rot(u16, i16),
     Add(u16, u16),

@@ -1,5 +1,5 @@
 // Reads a circuit on standard input and prints its schedule, or one line of `refused`, number and place.
-// The first 3,882 bytes decide what is printed, so no more than the buffer holds is read. Where reading fails, nothing is printed.
+// The first 4,397 bytes decide what is printed, so no more than the buffer holds is read. Where reading fails, nothing is printed.
 use libc::STDIN_FILENO;
 use libc::STDOUT_FILENO;
 ghost use Prim.Native.Nat.{_-_, _≤_};
@@ -25,8 +25,9 @@ fn read_from(buffer: &mut [u8], done: usize) -> Input
     Input::Bytes(io::count(got, rest))
 }
 
-// Reads until the buffer is full, the input ends or a read fails.
+// Reads until the buffer is full, the input ends or a read fails. What a full buffer leaves unread decides nothing.
 fn read_input(buffer: &mut [u8]) -> Input
+    requires { ⌜ 4397 ≤ length (now buffer) ⌝ }
     ensures { λ r. ⌜ Within (length (now (buffer .exit))) r ⌝ }
 {
     let mut done = 0;
@@ -43,7 +44,8 @@ fn read_input(buffer: &mut [u8]) -> Input
 }
 
 fn main() {
-    let mut input = io::buffer();
+    // Room for the bytes that decide, rounded up to 9 times 512.
+    let mut input = [0u8; 4608];
     let Input::Bytes(count) = read_input(&mut input) else {
         return;
     };

@@ -7,7 +7,6 @@ use mathlib.Core.Bool.{Bool, true, false, cond, not}
 use mathlib.Core.List.{List, [], _∷_, _++_}
 use borrow.Author.Needs.{needs}
 use lib.Dec.{T}
-use lib.IntN.{pos}
 use lib.ListN.{length, drop, set, length-drop, length-set, drop-of-length-le}
 use lib.Seq.{length-take-le, drop-drop}
 use Rattle.fields.specs.Pieces.{Bytes}
@@ -20,10 +19,8 @@ use Rattle.model.specs.declared.Grammar.the-variants.{Circuit}
 use Rattle.model.specs.declared.Header.{Header}
 use Rattle.model.specs.declared.Line.{Line}
 use Rattle.model.specs.declared.Word.{Word}
-use Rattle.model.specs.declared.Word.the-variants.{Rot}
 use Rattle.model.specs.Scales.{headerInRange}
 use Rattle.model.specs.Words.{entry, hasWord}
-use Rattle.model.specs.Numbering.{sameWord}
 use Rattle.model.specs.Files.{File, lineOf, lineTests}
 use Rattle.text.specs.declared.Context.{Context}
 use Rattle.text.specs.Tables.{RestFree}
@@ -32,10 +29,10 @@ use Rattle.text.proofs.FileLaws.{has-room, kept-most}
 use Rattle.forms.specs.Along.{lineIn, isClosed, afterLine, numbersIn}
 use Rattle.forms.proofs.TextLaws.{Past, past-line}
 use Rattle.tables.specs.Records as Records
-use Rattle.tables.specs.Records.{amountFrom, wordNumber, lineWith, linesHeld, freeRecords}
+use Rattle.tables.specs.Records.{wordNumber, lineWith, linesHeld, freeRecords}
 use Rattle.tables.proofs.Records.{free-long, none-stored, stored-free}
 use Rattle.tables.proofs.HeldLines.{stored-lines}
-use Rattle.tables.proofs.Words.{line-word, record-line}
+use Rattle.tables.proofs.Words.{word-with, record-line}
 use Rattle.words.specs.Words.{wordIn}
 use Rattle.judging.specs.declared.LineRead.{LineRead}
 use Rattle.judging.specs.declared.LineRead.the-variants.{Good, Bad}
@@ -233,7 +230,7 @@ module _ {c : Context} {h : Header} {s : Bytes} {start : ℕ} {records : List (L
           kept-as : keptCount (linesHeld records count ++ (lineWith w a b d ∷ [])) ≡ keptWith kept (hasWord Circuit w)
           kept-as =
               kept-more (linesHeld records count) (lineWith w a b d)
-              ∙ ap₂ (λ (k : ℕ) (v : Word). keptWith k (hasWord Circuit v)) (sym (f .counted)) (line-word w (pos a ∷ cond (sameWord w Rot) (amountFrom b) (pos b) ∷ pos d ∷ []))
+              ∙ ap₂ (λ (k : ℕ) (v : Word). keptWith k (hasWord Circuit v)) (sym (f .counted)) (word-with w a b d)
 
           -- a line that is taken, stored
           pub line-stored : Filling c h s start (set records count (n ∷ a ∷ b ∷ d ∷ [])) (count + 1) kept′ e

@@ -213,7 +213,7 @@ table =
     ∷ row inputs257 (withRoom 0 plan) (refusedAt 3 1 258)
     ∷ row "circuit 60 20 2\nneg 0\n" (withRoom 0 plan) (refusedAt 4 1 2)
     ∷ row "circuit 60 20 2\nconst 1\nneg 0\n" (withRoom 0 plan) (refusedAt 5 1 3)
-    ∷ row "circuit 60 20 2\nconst 65536\n" (withRoom 0 plan) (refusedAt 11 1 2)
+    ∷ row "circuit 60 20 2\nconst 4294967296\n" (withRoom 0 plan) (refusedAt 11 1 2)
     ∷ row fourth (withRoom 0 plan) (refusedAt 6 1 4)
     ∷ row "schedule 60 20 2\nin\nrs 0\n" (withRoom 0 erase) (refusedAt 1 1 3)
     ∷ row "schedule 0 20 2\n" (withRoom 0 erase) (refusedAt 2 1 1)
@@ -259,4 +259,52 @@ table =
     -- erasing a schedule that breaks the rules
     ∷ row "schedule 60 20 2\nin\nconst 3\nenc 1 5 1\nus 0 7\nadd 3 2\nrs 4 1\nneg 5\nout 6\n" erase
     (written "circuit 60 20 2\nin\nconst 3\nadd 0 1\nneg 2\nout 3\n")
+    -- Document 02, Job 1: "A constant number runs from 0 to 4294967295." The largest number in every service, its plan's text of 17 + 17
+    -- bytes, and one more
+    ∷ row "circuit 60 20 2\nconst 4294967295\n" plan (written "schedule 60 20 2\nconst 4294967295\n")
+    ∷ row "schedule 60 20 2\nconst 4294967295\n" (checkAgainst "circuit 60 20 2\nconst 4294967295\n") (comesTo passes)
+    ∷ row "schedule 60 20 2\nconst 4294967295\n" erase (written "circuit 60 20 2\nconst 4294967295\n")
+    ∷ row "circuit 60 20 2\nin\nconst 4294967295\nmul 0 1\n" least (comesTo (fitsAt 1))
+    ∷ row "circuit 60 20 2\nconst 4294967295\n" (replyTo (withRoom 34 plan)) (gives 0 0 0 34)
+    ∷ row "circuit 60 20 2\nconst 4294967295\n" (withRoom 33 plan) (refusedAt 13 0 0)
+    ∷ row "circuit 60 20 2\nconst 4294967296\n" plan (refusedAt 11 1 2)
+    ∷ row "circuit 60 20 2\nconst 4294967296\n" program (prints (shown "refused 11 2\n"))
+    ∷ row "schedule 60 20 2\nconst 4294967296\n" erase (refusedAt 11 1 2)
+    -- eleven digits are a number, twelve are none
+    ∷ row "circuit 60 20 2\nconst 99999999999\n" plan (refusedAt 11 1 2)
+    ∷ row "circuit 60 20 2\nconst 100000000000\n" plan (refusedAt 1 1 2)
+    -- 65536 in a plan. in 100 @ 2; mul with the constant: m(100) = 2, nothing to bring, enc at scale 20 and level 2; 100 − 20 = 80 @ 2.
+    ∷ row "circuit 60 20 2\nin\nconst 65536\nmul 0 1\nout 2\n" plan
+    (written "schedule 60 20 2\nin\nconst 65536\nenc 1 20 2\nmul 0 2\nout 3\n")
+    -- it is not constant 0, nor is 65537 constant 65536
+    ∷ row "schedule 60 20 2\nconst 65536\n" (checkAgainst "circuit 60 20 2\nconst 0\n") (refusedAt 12 1 2)
+    ∷ row "schedule 60 20 2\nconst 65537\n" (checkAgainst "circuit 60 20 2\nconst 65536\n") (refusedAt 12 1 2)
+    -- the form of every field before any range or operand, and the range before the operand
+    ∷ row "schedule 60 20 2\nenc 4294967296 x 1\n" erase (refusedAt 1 1 2)
+    ∷ row "schedule 60 20 2\nconst 1\nenc 0 4294967296 x\n" erase (refusedAt 1 1 3)
+    ∷ row "circuit 60 20 2\nrot 4294967296 99999\n" plan (refusedAt 11 1 2)
+    -- "An operand number has no range of its own: too large is 4", also where its lowest 16 or 32 bits would name value 0
+    ∷ row "circuit 60 20 2\nin\nneg 65536\n" plan (refusedAt 4 1 3)
+    ∷ row "circuit 60 20 2\nin\nneg 4294967296\n" plan (refusedAt 4 1 3)
+    ∷ row "circuit 60 20 2\nin\nadd 65536 0\n" plan (refusedAt 4 1 3)
+    ∷ row "circuit 60 20 2\nin\nadd 0 65536\n" plan (refusedAt 4 1 3)
+    ∷ row "circuit 60 20 2\nin\nadd 4294967296 0\n" plan (refusedAt 4 1 3)
+    ∷ row "circuit 60 20 2\nin\nadd 0 4294967296\n" plan (refusedAt 4 1 3)
+    ∷ row "circuit 60 20 2\nin\nadd 99999999999 0\n" plan (refusedAt 4 1 3)
+    ∷ row "circuit 60 20 2\nin\nadd 0 99999999999\n" plan (refusedAt 4 1 3)
+    ∷ row "circuit 60 20 2\nin\nmul 4294967296 0\n" plan (refusedAt 4 1 3)
+    ∷ row "circuit 60 20 2\nin\nrot 4294967296 1\n" plan (refusedAt 4 1 3)
+    ∷ row "circuit 60 20 2\nin\nout 4294967296\n" plan (refusedAt 4 1 3)
+    ∷ row "schedule 60 20 2\nin\nrs 4294967296 1\n" erase (refusedAt 4 1 3)
+    -- amounts, bits, counts, scales, levels and header numbers whose lowest 32 bits, or 16, would be in range
+    ∷ row "circuit 60 20 2\nin\nrot 0 4294967297\n" plan (refusedAt 11 1 3)
+    ∷ row "schedule 60 20 2\nin\nus 0 65537\n" erase (refusedAt 11 1 3)
+    ∷ row "schedule 60 20 2\nin\nus 0 4294967297\n" erase (refusedAt 11 1 3)
+    ∷ row "schedule 60 20 2\nin\nrs 0 4294967297\n" erase (refusedAt 11 1 3)
+    ∷ row "schedule 60 20 2\nin\nms 0 4294967297\n" erase (refusedAt 11 1 3)
+    ∷ row "schedule 60 20 2\nconst 1\nenc 0 4294967316 2\n" erase (refusedAt 11 1 3)
+    ∷ row "schedule 60 20 2\nconst 1\nenc 0 20 4294967297\n" erase (refusedAt 11 1 3)
+    ∷ row "circuit 4294967356 20 2\n" plan (refusedAt 2 1 1)
+    ∷ row "circuit 60 4294967316 2\n" plan (refusedAt 2 1 1)
+    ∷ row "circuit 60 20 4294967297\n" plan (refusedAt 2 1 1)
     ∷ []

@@ -1,5 +1,5 @@
 // Reads the texts on standard input and prints of each its table, as text, or its refusal. `stdin` has good and damaged texts, and `stdout` what they
-// must come to, worked out by hand from document 01.
+// must come to, worked out by hand from documents 01 and 02.
 //
 // A text stands after a line that begins with `c`, `s` or `e`, for a circuit, a schedule and a schedule for erasing, and ends before a byte 28.
 use libc::STDOUT_FILENO;

@@ -1,5 +1,5 @@
 -- A record's first number and the line that it holds. Assumes nothing.
-use Prim.Native.Nat.{ℕ, _≤_, _<_}
+use Prim.Native.Nat.{ℕ, _/_, _%_, _≤_, _<_}
 use native.Mathlib.Decide.{decLe}
 use native.Mathlib.Omega.{arith}
 use mathlib.Core.Bool.{Bool, cond}
@@ -17,14 +17,13 @@ use Rattle.model.specs.declared.Line.the-variants.{Free}
 use Rattle.model.specs.declared.Kind.{Kind}
 use Rattle.model.specs.declared.Kind.the-variants.{Ciphertext, Constant, Encoded, Nothing}
 use Rattle.model.specs.declared.Word.{Word}
-use Rattle.model.specs.declared.Word.the-variants.{Rot, NoWord}
+use Rattle.model.specs.declared.Word.the-variants.{Const, Rot, NoWord}
 use Rattle.model.specs.Words.{entry, words}
-use Rattle.model.specs.Numbering.{sameWord}
 use Rattle.model.specs.Files as Files
 use Rattle.model.specs.Files.{wordOf, kindOf, kindAt, isConstant}
 use Rattle.model.proofs.EveryWord.{each-word}
 use Rattle.tables.proofs.Amounts.{amount-back}
-use Rattle.tables.specs.Records.{amountFrom, wordNumber, wordFrom, recordWith, recordOf, lineWith, lineFrom, lineOf, linesOf, linesHeld, struckWord, isStruck}
+use Rattle.tables.specs.Records.{amountFrom, wordNumber, wordFrom, recordWith, recordOf, firstHeld, secondHeld, lineWith, lineFrom, lineOf, linesOf, linesHeld, struckWord, isStruck}
 
 -- ---- the record of a line
 -- the record of a word and its three numbers
@@ -32,6 +31,10 @@ pub record-line : (w : Word) (n a b c : ℕ) → n ≡ wordNumber w → lineOf (
 unfolding lineOf lineFrom
 record-line w n a b c e =
     ap (λ (v : Word). lineWith v a b c) (ap wordFrom e ∙ each-word (λ v. wordFrom (wordNumber v)) (λ v. v) refl w)
+
+-- a constant number in two halves
+pub halves-line : (k : ℕ) → lineWith Const (k % 65536) (k / 65536) 0 ≡ Lines.Const k
+halves-line k = ap Lines.Const (omega arith)
 
 module _ (x : Line) (r : List ℕ) where
   pub recorded : (y : Line) → x ≡ y → r ≡ recordOf y → r ≡ recordOf x
@@ -47,15 +50,27 @@ module _ (x : Line) (r : List ℕ) where
     pub rotation-held : lineOf r ≡ lineWith Rot a n 0 → lineOf r ≡ x
     rotation-held is = is ∙ ap (Lines.Rot a) amount ∙ sym e
 
-pub ruleset record-laws = (needs, record-line, recorded, held-by, rotation-recorded, rotation-held)
+  module _ (k low high : ℕ) (e : x ≡ Lines.Const k) (l : low ≡ k % 65536) (h : high ≡ k / 65536) where
+    pub halves-recorded : r ≡ recordWith Const low high 0 → r ≡ recordOf x
+    halves-recorded is = is ∙ rw (e, l, h)
 
--- the line of record i, where the code has read its four numbers
+    pub halves-held : lineOf r ≡ lineWith Const low high 0 → lineOf r ≡ x
+    halves-held is = is ∙ rw (l, h) (halves-line k) ∙ sym e
+
+pub ruleset record-laws = (needs, record-line, recorded, held-by, rotation-recorded, rotation-held, halves-recorded, halves-held)
+
+-- the line of record i
+pub record-held : (records : List (List ℕ)) (i : ℕ) → lineOf (getD records i []) ≡ getD (linesOf records) i Free
+unfolding lineFrom lineOf
+record-held records i = sym (List·getD-map lineOf records i [])
+
+-- where the code has read its four numbers
 pub line-held :
     (records : List (List ℕ)) (i : ℕ) (x : Line) →
     x ≡ lineFrom (getD (getD records i []) 0 0) (getD (getD records i []) 1 0) (getD (getD records i []) 2 0) (getD (getD records i []) 3 0) →
     x ≡ getD (linesOf records) i Free
-unfolding lineFrom lineOf
-line-held records i x e = e ∙ sym (List·getD-map lineOf records i [])
+unfolding lineOf
+line-held records i x e = e ∙ record-held records i
 
 -- ---- a word's number
 low : (n : ℕ) → (n ≡ 1 → ⊥) → (n ≡ 2 → ⊥) → (n ≡ 3 → ⊥) → (n ≡ 4 → ⊥) → (n ≡ 5 → ⊥) → (n ≡ 6 → ⊥) → n ≤ 6 → n ≡ 0
@@ -98,9 +113,12 @@ pub ruleset word-laws = (needs, word-line)
 pub line-word : (w : Word) (ns : List ℤ) → wordOf (Files.lineOf w ns) ≡ w
 line-word w ns = each-word (λ v. wordOf (Files.lineOf v ns)) (λ v. v) refl w
 
+pub word-with : (w : Word) (a b c : ℕ) → wordOf (lineWith w a b c) ≡ w
+word-with w a b c = line-word w (firstHeld w a b ∷ secondHeld w b ∷ pos c ∷ [])
+
 word-held : (n a b c : ℕ) → wordOf (lineFrom n a b c) ≡ wordFrom n
 unfolding lineFrom
-word-held n a b c = line-word (wordFrom n) (pos a ∷ cond (sameWord (wordFrom n) Rot) (amountFrom b) (pos b) ∷ pos c ∷ [])
+word-held n a b c = word-with (wordFrom n) a b c
 
 -- the word of record i, where the code has read its first number
 word-at : (records : List (List ℕ)) (i : ℕ) (w : Word) → w ≡ wordFrom (getD (getD records i []) 0 0) → w ≡ wordOf (getD (linesOf records) i Free)

@@ -1,8 +1,9 @@
 -- A table's records as the code holds them: four numbers of 16 bits each, the word's, in document 01's order from 1, and then its fields, 0
--- where it has none. A record whose first number is no word's holds no line: it is free.
-use Prim.Native.Nat.{ℕ, _+_}
+-- where it has none; a constant number takes two. A record whose first number is no word's holds no line: it is free.
+use Prim.Native.Nat.{ℕ, _+_, _*_, _/_, _%_}
 use mathlib.Core.Bool.{Bool, cond, not, _&&_}
 use mathlib.Core.List.{List, [], _∷_, map}
+use lib.Dec.{eqb}
 use lib.IntN.{ℤ, pos, _+ℤ_, _-ℤ_}
 use lib.ListN.{getD, take, replicate}
 use Rattle.ints.specs.Parts.{positive}
@@ -10,7 +11,7 @@ use Rattle.model.specs.declared.Header.{Header}
 use Rattle.model.specs.declared.Line.{Line}
 use Rattle.model.specs.declared.Grammar.the-variants.{Circuit, Schedule}
 use Rattle.model.specs.declared.Word.{Word}
-use Rattle.model.specs.declared.Word.the-variants.{Rot, NoWord}
+use Rattle.model.specs.declared.Word.the-variants.{Const, Rot, NoWord}
 use Rattle.model.specs.Words.{words, hasWord}
 use Rattle.model.specs.Numbering.{order, sameWord}
 use Rattle.model.specs.Files as Files
@@ -38,9 +39,17 @@ struckWord w = hasWord Schedule w && not (hasWord Circuit w)
 abbrev pub isStruck : Line → Bool
 isStruck x = struckWord (wordOf x)
 
+-- a word's first field, by the first two numbers after its own: a constant number has 32 bits and is held as its lower 16, then its higher
+abbrev pub firstHeld : Word → ℕ → ℕ → ℤ
+firstHeld w a b = pos (cond (sameWord w Const) (a + 65536 * b) a)
+
+-- its second field, by the second of those numbers
+abbrev pub secondHeld : Word → ℕ → ℤ
+secondHeld w b = cond (sameWord w Rot) (amountFrom b) (pos b)
+
 -- the line of a word and the three numbers after its own
 abbrev pub lineWith : Word → ℕ → ℕ → ℕ → Line
-lineWith w a b c = Files.lineOf w (pos a ∷ cond (sameWord w Rot) (amountFrom b) (pos b) ∷ pos c ∷ [])
+lineWith w a b c = Files.lineOf w (firstHeld w a b ∷ secondHeld w b ∷ pos c ∷ [])
 
 unfoldable pub lineFrom : ℕ → ℕ → ℕ → ℕ → Line
 lineFrom n a b c = lineWith (wordFrom n) a b c
@@ -53,11 +62,18 @@ abbrev pub recordOf : Line → List ℕ
 recordOf x =
     let w = wordOf x in
     let ns = said x .numbers in
-    recordWith w (nth ns 0) (cond (sameWord w Rot) (amountTo (getD ns 1 (pos 0))) (nth ns 1)) (nth ns 2)
+    let first = nth ns 0 in
+    let second = cond (sameWord w Rot) (amountTo (getD ns 1 (pos 0))) (nth ns 1) in
+    cond (sameWord w Const) (recordWith w (first % 65536) (first / 65536) 0) (recordWith w first second (nth ns 2))
 
 -- the line that a record holds
 unfoldable pub lineOf : List ℕ → Line
 lineOf numbers = lineFrom (getD numbers 0 0) (getD numbers 1 0) (getD numbers 2 0) (getD numbers 3 0)
+
+-- the same four numbers
+abbrev pub numbersAgree : List ℕ → List ℕ → Bool
+numbersAgree r s =
+    eqb (getD r 0 0) (getD s 0 0) && (eqb (getD r 1 0) (getD s 1 0) && (eqb (getD r 2 0) (getD s 2 0) && eqb (getD r 3 0) (getD s 3 0)))
 
 abbrev pub linesOf : List (List ℕ) → List Line
 linesOf records = map lineOf records

@@ -3,14 +3,16 @@ use model::Kind;
 use model::Line;
 use model::Word;
 ghost use mathlib.Core.Path.{_≡_};
-ghost use Prim.Native.Nat.{_≤_, _<_};
+ghost use Prim.Native.Nat.{_+_, _*_, _/_, _%_, _≤_, _<_};
+ghost use lib.Dec.{T};
 ghost use lib.ListN.{length, getD};
 ghost use Rattle.model.specs.declared.Line.the-variants.{Free};
+ghost use Rattle.model.specs.declared.Grammar.the-variants.{Schedule};
 ghost use Rattle.tables.specs.Operands.{operandsIn, firstOperand, secondOperand, withOperands};
 ghost use Rattle.model.specs.Words.{entry};
-ghost use Rattle.model.specs.Files.{operands, kindAt, isConstant};
+ghost use Rattle.model.specs.Files.{operands, isWord, kindAt, isConstant};
 ghost use Rattle.model.specs.Answers.{sameLine};
-ghost use Rattle.tables.specs.Records.{amountFrom, wordNumber, wordFrom, recordWith, recordOf, lineWith, lineFrom, lineOf, linesOf, linesHeld, struckWord, isStruck};
+ghost use Rattle.tables.specs.Records.{amountFrom, wordNumber, wordFrom, recordWith, recordOf, lineWith, lineFrom, lineOf, linesOf, linesHeld, struckWord, isStruck, numbersAgree};
 
 // ---- words
 // The number of a word in a record: the words in document 01's order from 1; 0 is no word's.
@@ -93,6 +95,25 @@ fn amount_from(number: u16) -> i16
     ((number as i32) - 32768) as i16
 }
 
+// A constant number has 32 bits: its record holds the lower half of them and then the higher half.
+pub fn low_half(number: u32) -> u16
+    ensures { λ r. ⌜ r ≡ number % 65536 ⌝ }
+{
+    (number % 65536) as u16
+}
+
+pub fn high_half(number: u32) -> u16
+    ensures { λ r. ⌜ r ≡ number / 65536 ⌝ }
+{
+    (number / 65536) as u16
+}
+
+fn from_halves(low: u16, high: u16) -> u32
+    ensures { λ r. ⌜ r ≡ low + 65536 * high ⌝ }
+{
+    (low as u32) + 65536 * (high as u32)
+}
+
 // The record with this word and these numbers.
 pub fn record_with(word: Word, first: u16, second: u16, third: u16) -> Record
     ensures { λ r. ⌜ r ≡ recordWith word first second third ⌝ }
@@ -108,7 +129,7 @@ pub fn record_of(line: Line) -> Record
 {
     match line {
         Line::In => record_with(Word::In, 0, 0, 0),
-        Line::Const(k) => record_with(Word::Const, k, 0, 0),
+        Line::Const(k) => record_with(Word::Const, low_half(k), high_half(k), 0),
         Line::Neg(a) => record_with(Word::Neg, a, 0, 0),
         Line::Rot(a, amount) => record_with(Word::Rot, a, shifted(amount), 0),
         Line::Add(a, b) => record_with(Word::Add, a, b, 0),
@@ -128,7 +149,7 @@ fn line_from(number: u16, a: u16, b: u16, c: u16) -> Line
 {
     match word_from(number) {
         Word::In => Line::In,
-        Word::Const => Line::Const(a),
+        Word::Const => Line::Const(from_halves(a, b)),
         Word::Neg => Line::Neg(a),
         Word::Rot => Line::Rot(a, amount_from(b)),
         Word::Add => Line::Add(a, b),
@@ -192,11 +213,9 @@ pub fn struck_at(records: &[Record], i: usize) -> bool
 }
 
 // ---- comparing
-// Whether two records hold the same line, where each is the record of its line.
-fn same_record(r: Record, s: Record) -> bool
-    requires { ⌜ recordOf (lineOf r) ≡ r ⌝ }
-    requires { ⌜ recordOf (lineOf s) ≡ s ⌝ }
-    ensures { λ b. ⌜ b ≡ sameLine (lineOf r) (lineOf s) ⌝ }
+// Whether two records have the same numbers.
+fn numbers_agree(r: Record, s: Record) -> bool
+    ensures { λ b. ⌜ b ≡ numbersAgree r s ⌝ }
 {
     if r[0] != s[0] {
         return false;
@@ -210,11 +229,18 @@ fn same_record(r: Record, s: Record) -> bool
     r[3] == s[3]
 }
 
-// Whether two lines are the same: their records are.
-pub fn same_line(x: Line, y: Line) -> bool
-    ensures { λ b. ⌜ b ≡ sameLine x y ⌝ }
+// Whether two records hold the same line. Those with the same numbers do; of others the lines are compared, by their own records.
+pub fn same_record(r: Record, s: Record) -> bool
+    ensures { λ b. ⌜ b ≡ sameLine (lineOf r) (lineOf s) ⌝ }
 {
-    same_record(record_of(x), record_of(y))
+    if numbers_agree(r, s) {
+        return true;
+    }
+    let x = line_from(r[0], r[1], r[2], r[3]);
+    let y = line_from(s[0], s[1], s[2], s[3]);
+    let p = record_of(x);
+    let q = record_of(y);
+    numbers_agree(p, q)
 }
 
 // ---- operands
@@ -287,5 +313,42 @@ pub fn with_operands(line: Line, first: u16, second: u16) -> Line
         Line::Ms(_, levels) => Line::Ms(first, levels),
         Line::Us(_, bits) => Line::Us(first, bits),
         Line::Free => Line::Free,
+    }
+}
+
+// ---- the operands of a record's line
+// The first value that the line of a record names, 0 where it names none: `in` and `const` have the lowest numbers.
+pub fn first_of(r: Record) -> u16
+    requires { ⌜ T (isWord Schedule (lineOf r)) ⌝ }
+    ensures { λ a. ⌜ a ≡ firstOperand (lineOf r) ⌝ }
+{
+    if r[0] <= 2 {
+        return 0;
+    }
+    r[1]
+}
+
+// The second value that it names, 0 where it names none.
+pub fn second_of(r: Record) -> u16
+    ensures { λ a. ⌜ a ≡ secondOperand (lineOf r) ⌝ }
+{
+    match r[0] {
+        5 => r[2],
+        6 => r[2],
+        _ => 0,
+    }
+}
+
+// The record of the line that names these values instead.
+pub fn renamed(r: Record, first: u16, second: u16) -> Record
+    ensures { λ s. ⌜ lineOf s ≡ withOperands (lineOf r) first second ⌝ }
+{
+    match r[0] {
+        0 => r,
+        1 => r,
+        2 => r,
+        5 => [5, first, second, 0],
+        6 => [6, first, second, 0],
+        _ => [r[0], first, r[2], r[3]],
     }
 }

@@ -1,5 +1,5 @@
--- The first 3,882 bytes of a text decide its reading as a circuit. Assumes nothing.
--- Good lines among them take at most 3,854, so 28 bytes are left, or more: too many for a line of the form, whatever follows.
+-- The first 4,397 bytes of a text decide its reading as a circuit. Assumes nothing.
+-- Good lines among them take at most 4,369, so 28 bytes are left, or more: too many for a line of the form, whatever follows.
 use Prim.Native.Nat.{_*_, _≤_}
 use native.Mathlib.Decide.{decLe}
 use native.Mathlib.Omega.{arith}
@@ -19,24 +19,16 @@ use Rattle.model.specs.declared.Line.{Line}
 use Rattle.model.proofs.Tests.{HeaderFacts}
 use Rattle.text.specs.Files.{lineForm, circuitContext, readText}
 use Rattle.text.proofs.FileLaws.{line-tests, has-room, lawful, rows-are, header-read-written}
-use Rattle.text.proofs.Lengths.{circuits, refusedWith, unclosed-number, long-line, good-length, first-length, header-length, long-header}
+use Rattle.text.proofs.Lengths.{circuits, refusedWith, unclosed-number, long-line, good-length, header-length, long-header}
 
 -- ---- how many bytes good lines take, with their line feeds
 module _ (h : Header) (facts : HeaderFacts h) where
-  lines-total : {done xs : List Line} → RowsFormed circuits h done xs → length (textOf (map (lineForm .text) xs)) ≤ 15 * length xs
+  lines-total : {done xs : List Line} → RowsFormed circuits h done xs → length (textOf (map (lineForm .text) xs)) ≤ 17 * length xs
   unfolding textOf
   lines-total no-row = omega arith
   lines-total {done} (row {x = x} {xs = xs} n more) =
       let few = has-room circuitContext done (lineForm .text x) (n .room) .few in
       let most = good-length h facts done (omega arith) x (line-tests Circuit h done x (n .passes)) in
-      let rest = lines-total more in
-      omega (arith, text-length (lineForm .text x) (map (lineForm .text) xs))
-
-  all-total : {xs : List Line} → RowsFormed circuits h [] xs → length xs ≤ 256 → length (textOf (map (lineForm .text) xs)) ≤ 3837
-  unfolding textOf
-  all-total no-row few = omega arith
-  all-total (row {x = x} {xs = xs} n more) few =
-      let most = first-length h facts x (line-tests Circuit h [] x (n .passes)) in
       let rest = lines-total more in
       omega (arith, text-length (lineForm .text x) (map (lineForm .text) xs))
 
@@ -69,10 +61,10 @@ header-decides rest (lines (q ∷ qs) u) long =
     ∙ ap (λ (j : Judgement Header). at 1 j (λ h. afterRows circuits h [] (lines qs u))) (long-header (rest ++ q) (omega arith))
 
 -- ---- the whole text
-decide : (s t : Bytes) → length s ≡ 3882 → (l : Lines) → linesOf s ≡ l → readText circuitContext (s ++ t) ≡ readText circuitContext s
+decide : (s t : Bytes) → length s ≡ 4397 → (l : Lines) → linesOf s ≡ l → readText circuitContext (s ++ t) ≡ readText circuitContext s
 unfolding textOf
 decide s t long (lines qs rest) e =
-    let whole : length (textOf qs ++ rest) ≡ 3882 = ap (λ (l : Lines). length (wholeText l)) (sym e) ∙ ap length (text-lines s) ∙ long in
+    let whole : length (textOf qs ++ rest) ≡ 4397 = ap (λ (l : Lines). length (wholeText l)) (sym e) ∙ ap length (text-lines s) ∙ long in
     let parts = length-append (textOf qs) rest in
     first-decide circuits s t e
     (λ none. let nothing = ap (λ (ps : List Bytes). length (textOf ps)) none in header-decides rest (linesOf t) (omega arith))
@@ -81,7 +73,7 @@ decide s t long (lines qs rest) e =
     let back = rows-read-written circuits (lawful circuitContext) h [] ps r in
     let formed = subst (RowsFormed circuits h []) (back .are) (back .formed) in
     let few = rows-are circuitContext formed (omega arith) (omega arith) .few in
-    let most = all-total h (head .facts) formed (omega arith) in
+    let most = lines-total h (head .facts) formed in
     let written = ap (λ (xs : List Line). length (textOf (map (lineForm .text) xs))) (sym (back .are)) ∙ ap (λ (ps : List Bytes). length (textOf ps)) (back .written) in
     let first = header-length h (head .facts) in
     let header = ap length (head .written) in
@@ -89,10 +81,10 @@ decide s t long (lines qs rest) e =
     let line = text-length p ps in
     rest-decides h rows rest (linesOf t) (omega arith))
 
-pub decided : (s : Bytes) → readText circuitContext s ≡ readText circuitContext (take 3882 s)
+pub decided : (s : Bytes) → readText circuitContext s ≡ readText circuitContext (take 4397 s)
 decided s =
-    elim (decLe (length s) 3882) [
-      | yes all ↦ ap (readText circuitContext) (sym (take-all 3882 s all))
-      | no long ↦ ap (readText circuitContext) (sym (take-append-drop 3882 s))
-          ∙ decide (take 3882 s) (drop 3882 s) (length-take-le 3882 s (omega arith)) (linesOf (take 3882 s)) refl
+    elim (decLe (length s) 4397) [
+      | yes all ↦ ap (readText circuitContext) (sym (take-all 4397 s all))
+      | no long ↦ ap (readText circuitContext) (sym (take-append-drop 4397 s))
+          ∙ decide (take 4397 s) (drop 4397 s) (length-take-le 4397 s (omega arith)) (linesOf (take 4397 s)) refl
     ]

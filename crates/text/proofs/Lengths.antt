@@ -1,20 +1,18 @@
--- How long the lines of a circuit are: 27 bytes if of the form, 14 if good, 11 if good and the first; and so of its header. Assumes nothing.
+-- How long the lines of a circuit are: 27 bytes if of the form, 16 if good; and so of its header. Assumes nothing.
 use Prim.Native.Nat.{ℕ, _+_, _*_, _≤_}
 use native.Mathlib.Omega.{arith}
 use mathlib.Core.Path.{_≡_, refl, sym, ap, _∙_, subst}
 use mathlib.Core.Bool.{Bool, true, false, cond, not, _&&_, _||_}
-use mathlib.Core.List.{List, [], _∷_}
+use mathlib.Core.List.{List}
 use mathlib.Core.Option.{Option, none, some}
 use borrow.Author.Tests.{lt-leb}
 use lib.Dec.{T, leb, leb→le, nleb→lt}
-use lib.IntN.{ℤ}
 use lib.ListN.{length}
 use Rattle.fields.specs.Pieces.{Bytes}
 use Rattle.fields.specs.Numbers.{decimalIn}
-use Rattle.rows.specs.Fields.{Holds, operand, ranged, upToTop, amount}
 use Rattle.rows.specs.Forms.{titled, worded}
 use Rattle.rows.specs.Rows.{Judgement, bad, formed, Format, readHeader, readLine}
-use Rattle.rows.proofs.FieldLaws.{Held, Fields, no-field, field, allSmall}
+use Rattle.rows.proofs.FieldLaws.{allSmall}
 use Rattle.rows.proofs.FormLaws.{titled-back, worded-back, made-back}
 use Rattle.rows.proofs.LengthLaws.{widths, said-width}
 use Rattle.model.specs.declared.Grammar.the-variants.{Circuit}
@@ -22,13 +20,13 @@ use Rattle.model.specs.declared.Header.{Header}
 use Rattle.model.specs.declared.Line.{Line}
 use Rattle.model.specs.declared.Word.{Word}
 use Rattle.model.specs.Scales.{headerFields, headerNumbers}
-use Rattle.model.specs.Words.{entry, isOperand, operandsAmong}
-use Rattle.model.specs.Files.{said, lineOf, wordOf, rowOf, isWord, everyUsable, lineTests}
-use Rattle.model.proofs.Tests.{or-cases, HeaderFacts, header-passes}
+use Rattle.model.specs.Words.{entry}
+use Rattle.model.specs.Files.{said, lineOf, wordOf, rowOf, isWord, lineTests}
+use Rattle.model.proofs.Tests.{HeaderFacts, header-passes}
 use Rattle.model.proofs.EveryWord.{every-word}
 use Rattle.model.proofs.Formed.{LineFacts}
 use Rattle.text.specs.Files.{headerWord, headerForm, headerOf, vocabulary, lineForm, keptCount, beginsKept, tooMany, circuitContext, format}
-use Rattle.text.proofs.WordLaws.{word-of, said-held, said-line}
+use Rattle.text.proofs.WordLaws.{word-of, said-line}
 use Rattle.text.proofs.FormLaws.{header-bounded, line-bounded}
 use Rattle.text.proofs.FileLaws.{kept-most}
 
@@ -89,32 +87,12 @@ line-width h facts before few x f =
     said-width 60 255 (rowOf x .bytes) (every-word (λ w. allSmall 60 255 (entry w .fields)) tt (wordOf x))
     (line-bounded h facts before x (f .range) (f .usable) 255 few)
 
-pub good-length : (h : Header) → HeaderFacts h → (before : List Line) → length before ≤ 255 → (x : Line) → LineFacts Circuit h before x → length (lineForm .text x) ≤ 14
+pub good-length : (h : Header) → HeaderFacts h → (before : List Line) → length before ≤ 255 → (x : Line) → LineFacts Circuit h before x → length (lineForm .text x) ≤ 16
 unfolding decimalIn
 good-length h facts before few x f =
-    let most = leb→le (length (rowOf x .bytes) + widths 60 255 (rowOf x .fields)) 14
-    (word-of Circuit (λ w. leb (length (entry w .bytes) + widths 60 255 (entry w .fields)) 14) tt (wordOf x) (f .word)) in
+    let most = leb→le (length (rowOf x .bytes) + widths 60 255 (rowOf x .fields)) 16
+    (word-of Circuit (λ w. leb (length (entry w .bytes) + widths 60 255 (entry w .fields)) 16) tt (wordOf x) (f .word)) in
     omega (arith, line-width h facts before few x f)
-
--- the first line names no operand
-abbrev anyOperand : List Holds → Bool
-anyOperand [] = false
-anyOperand (f ∷ fs) = isOperand f || anyOperand fs
-
-no-operand : {fs : List Holds} {ns : List ℤ} → Fields Held fs ns → T (everyUsable [] (operandsAmong fs ns)) → T (anyOperand fs) → ⊥
-no-operand no-field u t = t
-no-operand (field {f = operand} h hs) u t = u
-no-operand (field {f = ranged low high} h hs) u t = no-operand hs u t
-no-operand (field {f = upToTop} h hs) u t = no-operand hs u t
-no-operand (field {f = amount high} h hs) u t = no-operand hs u t
-
-pub first-length : (h : Header) → HeaderFacts h → (x : Line) → LineFacts Circuit h [] x → length (lineForm .text x) ≤ 11
-unfolding decimalIn
-first-length h facts x f =
-    or-cases (anyOperand (rowOf x .fields)) (leb (length (rowOf x .bytes) + widths 60 255 (rowOf x .fields)) 11)
-    (word-of Circuit (λ w. anyOperand (entry w .fields) || leb (length (entry w .bytes) + widths 60 255 (entry w .fields)) 11) tt (wordOf x) (f .word))
-    (λ t. absurd (no-operand (said-held x) (f .usable) t))
-    (λ t. let most = leb→le (length (rowOf x .bytes) + widths 60 255 (rowOf x .fields)) 11 t in omega (arith, line-width h facts [] (omega arith) x f))
 
 -- ---- the header
 pub header-length : (h : Header) → HeaderFacts h → length (headerForm Circuit .text h) ≤ 16

@@ -28,10 +28,9 @@ use Rattle.text.proofs.WordLaws.{word-of}
 use Rattle.forms.specs.Along.{fieldIn, endsField, isPlain}
 use Rattle.forms.proofs.WordLaws.{field-short}
 use Rattle.tables.specs.Records.{wordNumber}
-use Rattle.words.specs.declared.OperandsAsked.{OperandsAsked}
-use Rattle.words.specs.declared.OperandsAsked.the-variants.{NoOperand}
-use Rattle.words.specs.declared.WordAt.{WordAt}
-use Rattle.words.specs.Words.{orNoWord, wordIn, firstByte, candidateBy, candidateOf, spelled, operandsAsked, rowOf, IsRow, foundAt}
+use Rattle.words.specs.declared.Spelled.{Spelled}
+use Rattle.words.specs.declared.WordRow.{WordRow}
+use Rattle.words.specs.Words.{orNoWord, wordIn, firstByte, candidateBy, candidateOf, wordIf, spelledAt, rowOf}
 
 -- ---- the only word that can stand at a place, by the first two bytes there
 module _ (s : Bytes) (at : ℕ) where
@@ -68,42 +67,43 @@ module _ (s : Bytes) (at : ℕ) where
 
 pub ruleset candidate-laws = (needs, no-bytes, by-first, by-second, no-first)
 
--- ---- the row of a word, if its bytes are the first field
-pub none-found : (at : ℕ) → record { word = NoWord; row = record { fields = 0; asks = NoOperand }; end = at } ≡ foundAt at NoWord
-none-found at = ap (λ (n : ℕ). record { word = NoWord; row = rowOf NoWord; end = n }) here
-  where
-    here : at ≡ at + 0
-    here = omega arith
-
-module _ (w : Word) (bytes : Bytes) (fields : ℕ) (asks : OperandsAsked) (is : IsRow w bytes fields asks) where
-  pub row-plain : T (isPlain bytes)
-  row-plain = rw (is .spelling) (every-word (λ v. isPlain (entry v .bytes)) tt w)
+-- ---- a word, if its bytes are the first field
+module _ (w : Word) (bytes : Bytes) (is : bytes ≡ entry w .bytes) where
+  pub word-plain : T (isPlain bytes)
+  word-plain = rw is (every-word (λ v. isPlain (entry v .bytes)) tt w)
 
   module _ (s : Bytes) (at : ℕ) (r : Bool) (q : r ≡ sameBytes (fieldIn (drop at s)) bytes) where
-    pub not-spelled : r ≡ false → (f : WordAt) → f ≡ foundAt at NoWord → f ≡ foundAt at (spelled w (drop at s))
-    unfolding spelled
-    not-spelled h f e = rw (← is .spelling, ← q, h) e
+    pub not-spelled : r ≡ false → record { word = NoWord; end = at } ≡ spelledAt at (wordIf w (drop at s))
+    unfolding wordIf
+    not-spelled h = let here : at ≡ at + 0 = omega arith in rw (← is, ← q, h) (ap (λ (n : ℕ). record { word = NoWord; end = n }) here)
 
-    pub row-found : r ≡ true → record { word = w; row = record { fields = fields; asks = asks }; end = at + length bytes } ≡ foundAt at (spelled w (drop at s))
-    unfolding spelled
-    row-found h = rw (← is .spelling, ← q, h) (λ i. record { word = w; row = is .row i; end = at + length (is .spelling i) })
+    pub is-spelled : r ≡ true → record { word = w; end = at + length bytes } ≡ spelledAt at (wordIf w (drop at s))
+    unfolding wordIf
+    is-spelled h = rw (← is, ← q, h) (ap (λ (b : Bytes). record { word = w; end = at + length b }) is)
 
-pub ruleset row-laws = (needs, not-false, not-true, none-found, row-plain, not-spelled, row-found)
+pub ruleset spelling-laws = (needs, not-false, not-true, word-plain, not-spelled, is-spelled)
 
--- a word's row, as the table of the code has it
-module _ (w v : Word) (bytes : Bytes) (fields : ℕ) (asks : OperandsAsked) (e : w ≡ v) where
-  pub table-row : bytes ≡ entry v .bytes → fields ≡ length (entry v .fields) → asks ≡ operandsAsked (entry v .asks) → IsRow w bytes fields asks
-  table-row b f a = record { spelling = b ∙ ap (λ (u : Word). entry u .bytes) (sym e); row = (λ i. record { fields = f i; asks = a i }) ∙ ap rowOf (sym e) }
+-- its bytes, as the code has them
+pub bytes-of : (w v : Word) (bytes : Bytes) → w ≡ v → bytes ≡ entry v .bytes → bytes ≡ entry w .bytes
+bytes-of w v bytes e b = b ∙ ap (λ (u : Word). entry u .bytes) (sym e)
 
-pub no-row : (w : Word) (at : ℕ) (t : Bytes) (f : WordAt) → w ≡ NoWord → f ≡ foundAt at NoWord → f ≡ foundAt at (spelled w t)
-unfolding spelled
-no-row w at t f e p = p ∙ ap (foundAt at) (sym (ap (λ (v : Word). spelled v t) e ∙ go (sameBytes (fieldIn t) [])))
+pub no-word : (w : Word) (at : ℕ) (t : Bytes) → w ≡ NoWord → record { word = w; end = at } ≡ spelledAt at (wordIf w t)
+unfolding wordIf
+no-word w at t e =
+    let here : at ≡ at + 0 = omega arith in
+    rw e (ap (λ (n : ℕ). record { word = NoWord; end = n }) here ∙ sym (ap (spelledAt at) (go (sameBytes (fieldIn t) []))))
   where
     go : (b : Bool) → cond b NoWord NoWord ≡ NoWord
     go true = refl
     go false = refl
 
-pub ruleset table-laws = (needs, table-row, no-row)
+pub ruleset bytes-laws = (needs, bytes-of, no-word)
+
+-- ---- the row of a word
+pub row-is : (w v : Word) (r : WordRow) → w ≡ v → r ≡ rowOf v → r ≡ rowOf w
+row-is w v r e q = q ∙ ap rowOf (sym e)
+
+pub ruleset row-laws = (needs, row-is)
 
 -- a field's bytes are the first of the text
 field-first : (t : Bytes) (i : ℕ) → i < length (fieldIn t) → getD (fieldIn t) i 0 ≡ getD t i 0
@@ -151,8 +151,8 @@ named-itself w =
     (every-word (λ v. sameWord (orNoWord (named vocabulary words (entry v .bytes))) v) tt w)
 
 -- a text's first field is its candidate or none of the words
-candidate-word : (t : Bytes) → spelled (candidateOf t) t ≡ wordIn t
-unfolding spelled wordIn
+candidate-word : (t : Bytes) → wordIf (candidateOf t) t ≡ wordIn t
+unfolding wordIf wordIn
 candidate-word t = go (sameBytes (fieldIn t) (entry (candidateOf t) .bytes)) refl
   where
     other : (o : Option Word) → named vocabulary words (fieldIn t) ≡ o → sameBytes (fieldIn t) (entry (candidateOf t) .bytes) ≡ false → NoWord ≡ orNoWord o
@@ -169,16 +169,12 @@ candidate-word t = go (sameBytes (fieldIn t) (entry (candidateOf t) .bytes)) ref
         sym (ap (λ (f : Bytes). orNoWord (named vocabulary words f)) text ∙ named-itself (candidateOf t))
     go false h = other (named vocabulary words (fieldIn t)) refl h
 
-module _ (t : Bytes) (at : ℕ) (w : Word) (c : w ≡ candidateOf t) (f : WordAt) (e : f ≡ foundAt at (spelled w t)) where
+module _ (t : Bytes) (at : ℕ) (w : Word) (c : w ≡ candidateOf t) (f : Spelled) (e : f ≡ spelledAt at (wordIf w t)) where
   pub found-word : f .word ≡ wordIn t
-  found-word = ap (λ (g : WordAt). g .word) e ∙ ap (λ (v : Word). spelled v t) c ∙ candidate-word t
-
-module _ (at : ℕ) (w : Word) (f : WordAt) (e : f ≡ foundAt at w) where
-  pub found-row : f .row ≡ rowOf (f .word)
-  found-row = ap (λ (g : WordAt). g .row) e ∙ ap (λ (g : WordAt). rowOf (g .word)) (sym e)
+  found-word = ap (λ (g : Spelled). g .word) e ∙ ap (λ (v : Word). wordIf v t) c ∙ candidate-word t
 
   pub found-end : f .end ≡ at + length (entry (f .word) .bytes)
-  found-end = ap (λ (g : WordAt). g .end) e ∙ ap (λ (g : WordAt). at + length (entry (g .word) .bytes)) (sym e)
+  found-end = ap (λ (g : Spelled). g .end) e ∙ ap (λ (g : Spelled). at + length (entry (g .word) .bytes)) (sym e)
 
 -- ---- a word of a file that was found is named by the first field
 pub word-named : (g : Grammar) (t : Bytes) (w : Word) → w ≡ wordIn t → T (hasWord g w) → named vocabulary words (fieldIn t) ≡ some w
@@ -201,6 +197,9 @@ module _ (w : Word) (n : ℕ) (q : n ≡ wordNumber w) where
   pub amount-by : eqb n 4 ≡ sameWord w Rot
   amount-by = ap (λ (m : ℕ). eqb m 4) q ∙ each-word (λ v. eqb (wordNumber v) 4) (λ v. sameWord v Rot) refl w
 
+  pub constant-by : eqb n 2 ≡ sameWord w Const
+  constant-by = ap (λ (m : ℕ). eqb m 2) q ∙ each-word (λ v. eqb (wordNumber v) 2) (λ v. sameWord v Const) refl w
+
   kept-test : (not (eqb n 0) && leb n 7) ≡ hasWord Circuit w
   kept-test = ap (λ (m : ℕ). not (eqb m 0) && leb m 7) q ∙ each-word (λ v. not (eqb (wordNumber v) 0) && leb (wordNumber v) 7) (hasWord Circuit) refl w
 
@@ -216,4 +215,4 @@ module _ (w : Word) (n : ℕ) (q : n ≡ wordNumber w) where
 pub circuit-kept : (g : Grammar) (w : Word) (r k : Bool) → g ≡ Circuit → k ≡ hasWord Circuit w → r ≡ k → r ≡ hasWord g w
 circuit-kept g w r k e q is = rw e (is ∙ q)
 
-pub ruleset word-laws = (needs, found-word, found-row, found-end, amount-by, kept-none, kept-few, schedule-some, circuit-kept)
+pub ruleset word-laws = (needs, found-word, found-end, amount-by, constant-by, kept-none, kept-few, schedule-some, circuit-kept)

@@ -1,21 +1,23 @@
 -- What the code uses: the word of a line's first field, how it is found, and its row.
 use Prim.Native.Nat.{ℕ, _+_}
-use mathlib.Core.Path.{_≡_}
 use mathlib.Core.Bool.{Bool, cond}
+use mathlib.Core.List.{List, [], _∷_}
 use mathlib.Core.Option.{Option, none, some}
 use lib.Dec.{eqb, ltb}
+use lib.IntN.{ℤ, pos, negℤ}
 use lib.ListN.{length, getD}
 use Rattle.fields.specs.Pieces.{Bytes, sameBytes}
+use Rattle.rows.specs.Fields.{Holds, operand, ranged, upToTop, amount}
 use Rattle.rows.specs.Forms.{named}
 use Rattle.model.specs.declared.Word.{Word}
 use Rattle.model.specs.declared.Word.the-variants.{In, Const, Neg, Rot, Add, Mul, Out, Enc, Rs, Ms, Us, NoWord}
-use Rattle.model.specs.Words.{Asks, noOperand, aCiphertext, aConstant, aPair, entry, words}
+use Rattle.model.specs.Words.{Asks, noOperand, aCiphertext, aConstant, aPair, entry, words, isOperand}
 use Rattle.text.specs.Files.{vocabulary}
 use Rattle.forms.specs.Along.{fieldIn}
 use Rattle.words.specs.declared.OperandsAsked.{OperandsAsked}
 use Rattle.words.specs.declared.OperandsAsked.the-variants.{NoOperand, Ciphertext, Constant, Pair}
 use Rattle.words.specs.declared.WordRow.{WordRow}
-use Rattle.words.specs.declared.WordAt.{WordAt}
+use Rattle.words.specs.declared.Spelled.{Spelled}
 
 abbrev pub orNoWord : Option Word → Word
 orNoWord none = NoWord
@@ -45,9 +47,12 @@ candidateBy first s =
 unfoldable pub candidateOf : Bytes → Word
 candidateOf t = cond (ltb (length t) 2) NoWord (candidateBy (getD t 0 0) (eqb (getD t 1 0) 115))
 
--- this word, if it is a text's first field
-unfoldable pub spelled : Word → Bytes → Word
-spelled w t = cond (sameBytes (fieldIn t) (entry w .bytes)) w NoWord
+-- this word, if it is a text's first field, and the place past it
+unfoldable pub wordIf : Word → Bytes → Word
+wordIf w t = cond (sameBytes (fieldIn t) (entry w .bytes)) w NoWord
+
+abbrev pub spelledAt : ℕ → Word → Spelled
+spelledAt at w = record { word = w; end = at + length (entry w .bytes) }
 
 -- ---- the row of a word in code
 abbrev pub operandsAsked : Asks → OperandsAsked
@@ -56,14 +61,33 @@ operandsAsked aCiphertext = Ciphertext
 operandsAsked aConstant = Constant
 operandsAsked aPair = Pair
 
+-- how many fields are operands
+abbrev pub operandsIn : List Holds → ℕ
+operandsIn [] = 0
+operandsIn (f ∷ fs) = cond (isOperand f) (1 + operandsIn fs) (operandsIn fs)
+
+-- the least and the largest of the first field that is none; 0 where each is one
+abbrev pub leastIn : List Holds → ℤ
+leastIn [] = pos 0
+leastIn (operand ∷ fs) = leastIn fs
+leastIn (ranged low high ∷ fs) = pos low
+leastIn (upToTop ∷ fs) = pos 1
+leastIn (amount most ∷ fs) = negℤ (pos most)
+
+abbrev pub largestIn : List Holds → ℕ
+largestIn [] = 0
+largestIn (operand ∷ fs) = largestIn fs
+largestIn (ranged low high ∷ fs) = high
+largestIn (upToTop ∷ fs) = 0
+largestIn (amount most ∷ fs) = most
+
 abbrev pub rowOf : Word → WordRow
-rowOf w = record { fields = length (entry w .fields); asks = operandsAsked (entry w .asks) }
-
--- bytes, number of fields and operands are those of the word's row
-pub record IsRow (w : Word) (bytes : Bytes) (fields : ℕ) (asks : OperandsAsked) : Type 0 where
-  pub spelling : bytes ≡ entry w .bytes
-  pub row : record { fields = fields; asks = asks } ≡ rowOf w
-
--- a word that a text begins with at a place, its row, and the place past it
-abbrev pub foundAt : ℕ → Word → WordAt
-foundAt at w = record { word = w; row = rowOf w; end = at + length (entry w .bytes) }
+rowOf w =
+    let fs = entry w .fields in
+    record {
+      fields = length fs;
+      operands = operandsIn fs;
+      least = leastIn fs;
+      largest = largestIn fs;
+      asks = operandsAsked (entry w .asks);
+    }

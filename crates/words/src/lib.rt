@@ -5,10 +5,10 @@ ghost use mathlib.Core.Path.{_≡_};
 ghost use Prim.Native.Nat.{_+_, _≤_};
 ghost use lib.ListN.{length, drop};
 ghost use Rattle.model.specs.declared.Grammar.the-variants.{Circuit};
-ghost use Rattle.model.specs.declared.Word.the-variants.{Rot, NoWord};
+ghost use Rattle.model.specs.declared.Word.the-variants.{Const, Rot};
 ghost use Rattle.model.specs.Words.{entry, hasWord};
 ghost use Rattle.model.specs.Numbering.{sameWord};
-ghost use Rattle.words.specs.Words.{rowOf, IsRow, foundAt, wordIn, candidateOf, spelled};
+ghost use Rattle.words.specs.Words.{rowOf, wordIn, candidateOf, wordIf, spelledAt};
 
 // What a word asks of its operands, which are its first fields.
 pub enum OperandsAsked {
@@ -18,19 +18,62 @@ pub enum OperandsAsked {
     Pair,
 }
 
-// What a word's row says of the fields after it: how many there are, and what is asked of the operands among them.
+// What a word's row says of the fields after it: how many there are; how many of them, the first ones, are operands; the least and the largest that each
+// other number may be, but for the level of an encoded constant, which goes up to the top level; and what is asked of the operands.
 pub struct WordRow {
     pub fields: usize,
+    pub operands: usize,
+    pub least: i64,
+    pub largest: u32,
     pub asks: OperandsAsked,
 }
 
-// A line's first field: which word it is, its row, and the place past it.
+// A line's first field: which word it is, and the place past it.
+pub struct Spelled {
+    pub word: Word,
+    pub end: usize,
+}
+
+// The same, with the word's row.
 pub struct WordAt {
     pub word: Word,
     pub row: WordRow,
     pub end: usize,
 }
 
+fn row(fields: usize, operands: usize, least: i64, largest: u32, asks: OperandsAsked) -> WordRow
+    ensures { λ r. ⌜ r ≡ record { fields = fields; operands = operands; least = least; largest = largest; asks = asks } ⌝ }
+{
+    WordRow {
+        fields,
+        operands,
+        least,
+        largest,
+        asks,
+    }
+}
+
+// The rows of the words.
+fn row_of(word: Word) -> WordRow
+    ensures { λ r. ⌜ r ≡ rowOf word ⌝ }
+{
+    match word {
+        Word::In => row(0, 0, 0, 0, OperandsAsked::NoOperand),
+        Word::Const => row(1, 0, 0, 4294967295, OperandsAsked::NoOperand),
+        Word::Neg => row(1, 1, 0, 0, OperandsAsked::Ciphertext),
+        Word::Rot => row(2, 1, -32767, 32767, OperandsAsked::Ciphertext),
+        Word::Add => row(2, 2, 0, 0, OperandsAsked::Pair),
+        Word::Mul => row(2, 2, 0, 0, OperandsAsked::Pair),
+        Word::Out => row(1, 1, 0, 0, OperandsAsked::Ciphertext),
+        Word::Enc => row(3, 1, 1, 3600, OperandsAsked::Constant),
+        Word::Rs => row(2, 1, 1, 60, OperandsAsked::Ciphertext),
+        Word::Ms => row(2, 1, 1, 60, OperandsAsked::Ciphertext),
+        Word::Us => row(2, 1, 1, 3600, OperandsAsked::Ciphertext),
+        Word::NoWord => row(0, 0, 0, 0, OperandsAsked::NoOperand),
+    }
+}
+
+// ---- the word at a place
 // The only word that can begin with the first two bytes here: one comparison of bytes is left.
 fn candidate(text: &[u8], at: usize) -> Word
     requires { ⌜ at ≤ length (now text) ⌝ }
@@ -54,61 +97,42 @@ fn candidate(text: &[u8], at: usize) -> Word
     }
 }
 
-// A line whose first field is none of the words.
-fn no_word(at: usize) -> WordAt
-    ensures { λ r. ⌜ r ≡ foundAt at NoWord ⌝ }
-{
-    WordAt {
-        word: Word::NoWord,
-        row: WordRow {
-            fields: 0,
-            asks: OperandsAsked::NoOperand,
-        },
-        end: at,
-    }
-}
-
-// The row of a word with these bytes, if they are the line's first field.
-fn row(
-    text: &[u8],
-    at: usize,
-    word: Word,
-    bytes: &[u8],
-    fields: usize,
-    asks: OperandsAsked,
-) -> WordAt
+// A word with these bytes, if they are the line's first field.
+fn spelled_as(text: &[u8], at: usize, word: Word, bytes: &[u8]) -> Spelled
     requires { ⌜ at ≤ length (now text) ⌝ }
-    requires { ⌜ IsRow word (now bytes) fields asks ⌝ }
-    ensures { λ r. ⌜ r ≡ foundAt at (spelled word (drop at (now (text .entry)))) ⌝ }
+    requires { ⌜ now bytes ≡ entry word .bytes ⌝ }
+    ensures { λ r. ⌜ r ≡ spelledAt at (wordIf word (drop at (now (text .entry)))) ⌝ }
 {
     if !forms::is_word_at(text, at, bytes) {
-        return no_word(at);
+        return Spelled {
+            word: Word::NoWord,
+            end: at,
+        };
     }
-    WordAt {
+    Spelled {
         word,
-        row: WordRow { fields, asks },
         end: at + bytes.len(),
     }
 }
 
-// The rows of the words: of each its bytes, how many fields follow it, and what it asks of its operands.
-fn row_at(word: Word, text: &[u8], at: usize) -> WordAt
+// The same of each word.
+fn spelled_at(word: Word, text: &[u8], at: usize) -> Spelled
     requires { ⌜ at ≤ length (now text) ⌝ }
-    ensures { λ r. ⌜ r ≡ foundAt at (spelled word (drop at (now (text .entry)))) ⌝ }
+    ensures { λ r. ⌜ r ≡ spelledAt at (wordIf word (drop at (now (text .entry)))) ⌝ }
 {
     match word {
-        Word::In => row(text, at, word, b"in", 0, OperandsAsked::NoOperand),
-        Word::Const => row(text, at, word, b"const", 1, OperandsAsked::NoOperand),
-        Word::Neg => row(text, at, word, b"neg", 1, OperandsAsked::Ciphertext),
-        Word::Rot => row(text, at, word, b"rot", 2, OperandsAsked::Ciphertext),
-        Word::Add => row(text, at, word, b"add", 2, OperandsAsked::Pair),
-        Word::Mul => row(text, at, word, b"mul", 2, OperandsAsked::Pair),
-        Word::Out => row(text, at, word, b"out", 1, OperandsAsked::Ciphertext),
-        Word::Enc => row(text, at, word, b"enc", 3, OperandsAsked::Constant),
-        Word::Rs => row(text, at, word, b"rs", 2, OperandsAsked::Ciphertext),
-        Word::Ms => row(text, at, word, b"ms", 2, OperandsAsked::Ciphertext),
-        Word::Us => row(text, at, word, b"us", 2, OperandsAsked::Ciphertext),
-        Word::NoWord => no_word(at),
+        Word::In => spelled_as(text, at, word, b"in"),
+        Word::Const => spelled_as(text, at, word, b"const"),
+        Word::Neg => spelled_as(text, at, word, b"neg"),
+        Word::Rot => spelled_as(text, at, word, b"rot"),
+        Word::Add => spelled_as(text, at, word, b"add"),
+        Word::Mul => spelled_as(text, at, word, b"mul"),
+        Word::Out => spelled_as(text, at, word, b"out"),
+        Word::Enc => spelled_as(text, at, word, b"enc"),
+        Word::Rs => spelled_as(text, at, word, b"rs"),
+        Word::Ms => spelled_as(text, at, word, b"ms"),
+        Word::Us => spelled_as(text, at, word, b"us"),
+        Word::NoWord => Spelled { word, end: at },
     }
 }
 
@@ -119,7 +143,20 @@ pub fn word_at(text: &[u8], at: usize) -> WordAt
     ensures row { λ r. ⌜ r .row ≡ rowOf (r .word) ⌝ }
     ensures end { λ r. ⌜ r .end ≡ at + length (entry (r .word) .bytes) ⌝ }
 {
-    row_at(candidate(text, at), text, at)
+    let found = spelled_at(candidate(text, at), text, at);
+    let word = found.word;
+    WordAt {
+        word,
+        row: row_of(word),
+        end: found.end,
+    }
+}
+
+// Whether the word's first field is a constant number.
+pub fn takes_constant(word: Word) -> bool
+    ensures { λ r. ⌜ r ≡ sameWord word Const ⌝ }
+{
+    tables::number_of(word) == 2
 }
 
 // Whether the word's second field is a rotation's amount.

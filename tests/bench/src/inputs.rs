@@ -49,6 +49,26 @@ pub fn long_circuit(lines: usize) -> Vec<u8> {
     text.into_bytes()
 }
 
+/// A full circuit with catalogue codes of ten digits for constant numbers, each used once.
+pub fn catalogue_circuit() -> Vec<u8> {
+    let mut text = String::from("circuit\t60\t20\t60\nin\n");
+    for i in 1..255 {
+        let line = match i % 4 {
+            1 | 3 => format!("const\t{}\n", u32::MAX - 9_876_543 * i),
+            2 => format!("mul\t{}\t{}\n", i - 2, i - 1),
+            _ => format!("add\t{}\t{}\n", i - 1, i - 2),
+        };
+        text.push_str(&line);
+    }
+    text.push_str("out\t254\n");
+    text.into_bytes()
+}
+
+/// The longest circuit of all: nothing but constants of ten digits.
+pub fn longest_circuit() -> Vec<u8> {
+    format!("circuit\t60\t60\t60\n{}", "const\t4294967295\n".repeat(256)).into_bytes()
+}
+
 /// A schedule of so many lines that keeps the rules: the first seventh is kept, the rest are upscales that nobody uses.
 pub fn long_schedule(lines: usize) -> (Vec<u8>, Vec<u8>) {
     let kept = lines / 7;

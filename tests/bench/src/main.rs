@@ -15,7 +15,7 @@ use std::time::Instant;
 
 const ROOM: usize = 131_072;
 /// There are at least so many calls, so that no run passes on missing inputs.
-const LEAST_CALLS: usize = 60;
+const LEAST_CALLS: usize = 68;
 /// A measurement is the shortest of so many runs, each of about so many nanoseconds: a short run is seldom disturbed.
 const RUNS: usize = 150;
 const RUN_TIME: f64 = 150_000.0;
@@ -97,16 +97,22 @@ fn calls_of(input: &Input) -> Vec<(Call, usize)> {
     calls
 }
 
+/// A circuit with its plan.
+fn planned(name: String, circuit: Vec<u8>) -> Input {
+    let mut out = vec![0; ROOM];
+    let reply = services::plan(&circuit, &mut out);
+    assert_eq!(reply.number, 0, "{name} has a plan");
+    out.truncate(reply.length as usize);
+    Input { name, circuit, schedule: out }
+}
+
 fn full_files() -> Vec<Input> {
     let mut full = Vec::new();
     for lines in [16, 32, 64, 128, 256] {
-        let circuit = inputs::long_circuit(lines);
-        let mut out = vec![0; ROOM];
-        let reply = services::plan(&circuit, &mut out);
-        assert_eq!(reply.number, 0, "the long circuit has a plan");
-        out.truncate(reply.length as usize);
-        full.push(Input { name: format!("circuit of {lines} lines"), circuit, schedule: out });
+        full.push(planned(format!("circuit of {lines} lines"), inputs::long_circuit(lines)));
     }
+    full.push(planned("catalogue codes, 256 lines".into(), inputs::catalogue_circuit()));
+    full.push(planned("256 constants".into(), inputs::longest_circuit()));
     for lines in [112, 224, 448, 896, 1792] {
         let (circuit, schedule) = inputs::long_schedule(lines);
         full.push(Input { name: format!("schedule of {lines} lines"), circuit, schedule });

@@ -1,4 +1,4 @@
-//! Making cases: random files, schedules made by hand, damaged texts and the limits of document 01.
+//! Making cases: random files, schedules made by hand, damaged texts and the limits of documents 01 and 02.
 
 pub mod damage;
 pub mod files;

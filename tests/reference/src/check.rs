@@ -183,4 +183,21 @@ mod tests {
         assert_eq!(against("circuit 60 20 2/in/"), Some(3));
         assert_eq!(against("circuit 60 20 2/in/out 0/in/"), Some(4));
     }
+
+    /// Constants that are the same modulo two to the 16 are two constants.
+    #[test]
+    fn another_constant() {
+        let checked = |number: &str, other: &str| {
+            let circuit = file(&format!("circuit 60 20 2/in/const {number}/add 0 1/"), Reading::Circuit);
+            let schedule = file(&format!("schedule 60 20 2/in/const {other}/enc 1 20 2/add 0 2/"), Reading::Schedule);
+            check(&circuit, &schedule).err().map(|refusal| (refusal.number, refusal.place))
+        };
+        for [number, other] in
+            [["7", "65543"], ["0", "65536"], ["65535", "4294967295"], ["2147483647", "4294967295"], ["7", "8"]]
+        {
+            assert_eq!(checked(number, other), Some((12, 3)), "{number} {other}");
+            assert_eq!(checked(other, number), Some((12, 3)), "{other} {number}");
+            assert_eq!([checked(number, number), checked(other, other)], [None; 2]);
+        }
+    }
 }

@@ -2,6 +2,7 @@
 //! that covers less than is asked fails, so that no generator passes by making nothing.
 
 use crate::both::Call;
+use crate::cases::damage::POWERS;
 use crate::library::Service;
 use crate::services::Reply;
 use crate::text::{CIRCUIT_LINES, KEPT_LINES, SCHEDULE_LINES};
@@ -48,7 +49,8 @@ pub struct Asked {
     pub only_plan: bool,
 }
 
-/// A row of the table. A limit has two sides: the last that is taken, and the first that is not.
+/// A row of the table. A limit has two sides: the last that is taken, and the first that is not. A number that is legal modulo a power of two, and is
+/// refused, has the two powers for sides.
 struct Row {
     name: &'static str,
     class: Class,
@@ -69,7 +71,7 @@ const fn limit(name: &'static str, places: &'static [Place]) -> Row {
 }
 
 /// Replies stand at their numbers; the other rows are named below.
-const ROWS: [Row; 36] = [
+const ROWS: [Row; 48] = [
     reply("success", ALL),
     reply("1 text not of the form", ALL),
     reply("2 header number", ALL),
@@ -97,7 +99,7 @@ const ROWS: [Row; 36] = [
     limit("F = 60 | 61", ALL),
     limit("W = 60 | 61", ALL),
     limit("L = 60 | 61", ALL),
-    limit("const 65535 | 65536", ALL),
+    limit("const 4294967295 | 4294967296", ALL),
     limit("rot by 32767 | 32768", ALL),
     limit("rot by -32767 | -32768", ALL),
     limit("us by 3600 | 3601", SCHEDULES),
@@ -105,6 +107,18 @@ const ROWS: [Row; 36] = [
     limit("rs by 60 | 61", SCHEDULES),
     limit("ms by 60 | 61", SCHEDULES),
     limit("field of 11 | 12 digits", ALL),
+    limit("4369 | 4370 circuit bytes", CIRCUITS),
+    limit("30482 | 30483 bytes", &[Place::CheckSchedule]),
+    limit("const 65535, 65536 read", ALL),
+    limit("12 by const, low | high", &[Place::CheckCircuit]),
+    limit("header + 2^16 | + 2^32", ALL),
+    limit("operand + 2^16 | + 2^32", ALL),
+    limit("rot by + 2^16 | + 2^32", ALL),
+    limit("us by + 2^16 | + 2^32", SCHEDULES),
+    limit("enc at + 2^16 | + 2^32", SCHEDULES),
+    limit("enc level + 2^16 | + 2^32", SCHEDULES),
+    limit("rs by + 2^16 | + 2^32", SCHEDULES),
+    limit("ms by + 2^16 | + 2^32", SCHEDULES),
     Row { name: "buffer enough | one short", class: Class::Buffer, sides: 2, places: WRITING },
 ];
 
@@ -125,7 +139,23 @@ const ENCODED: usize = 31;
 const RESCALES: usize = 32;
 const MODSWITCHES: usize = 33;
 const DIGITS: usize = 34;
-const BUFFER: usize = 35;
+const CIRCUIT_LENGTH: usize = 35;
+const SCHEDULE_LENGTH: usize = 36;
+const SIXTEEN_BITS: usize = 37;
+const ANOTHER_CONSTANT: usize = 38;
+const HEADER_WRAP: usize = 39;
+const OPERAND_WRAP: usize = 40;
+const ROTATION_WRAP: usize = 41;
+const UPSCALE_WRAP: usize = 42;
+const ENCODED_WRAP: usize = 43;
+const LEVEL_WRAP: usize = 44;
+const RESCALES_WRAP: usize = 45;
+const MODSWITCHES_WRAP: usize = 46;
+const BUFFER: usize = 47;
+
+/// The longest circuit and the longest schedule that can be read: every line a `const` of ten digits.
+const CIRCUIT_BYTES: usize = 17 + 17 * CIRCUIT_LINES;
+const SCHEDULE_BYTES: usize = 18 + 17 * SCHEDULE_LINES;
 
 /// The two sides of a limit.
 const TAKEN: usize = 0;
@@ -163,7 +193,7 @@ fn is_digits(field: &[u8], length: usize) -> bool {
 fn limit_of(line: &[u8], past: usize) -> Option<usize> {
     let ends = |numbers: [&str; 2]| line.ends_with(numbers[past].as_bytes());
     let row = match line.get(..2)? {
-        b"co" if ends(["\t65535", "\t65536"]) => CONSTANT,
+        b"co" if ends(["\t4294967295", "\t4294967296"]) => CONSTANT,
         b"ro" if ends(["\t32767", "\t32768"]) => ROTATION,
         b"ro" if ends(["\t-32767", "\t-32768"]) => ROTATION_BACK,
         b"us" if ends(["\t3600", "\t3601"]) => UPSCALE,
@@ -173,6 +203,47 @@ fn limit_of(line: &[u8], past: usize) -> Option<usize> {
         _ => return None,
     };
     Some(row)
+}
+
+fn number_of(field: &[u8]) -> Option<u64> {
+    std::str::from_utf8(field).ok().filter(|field| field.len() <= 11).and_then(|field| field.parse().ok())
+}
+
+/// The power of two, by its place, past which a number is legal that is itself too large.
+fn power_past(field: &[u8], legal: std::ops::RangeInclusive<u64>) -> Option<usize> {
+    let number = number_of(field.strip_prefix(b"-").unwrap_or(field))?;
+    POWERS.iter().position(|&power| number.checked_sub(power as u64).is_some_and(|left| legal.contains(&left)))
+}
+
+/// The rows of a line refused with 11 for a number that is legal modulo a power of two, and the power.
+fn wraps_of(line: &[u8], top_level: u64) -> Vec<(usize, usize)> {
+    let fields: Vec<&[u8]> = line.split(|&byte| byte == b'\t').collect();
+    let of = |row, place: usize, legal| fields.get(place).and_then(|field| power_past(field, legal)).map(|power| (row, power));
+    let wraps = match fields[0] {
+        b"rot" => [of(ROTATION_WRAP, 2, 0..=32_767), None],
+        b"us" => [of(UPSCALE_WRAP, 2, 1..=3600), None],
+        b"rs" => [of(RESCALES_WRAP, 2, 1..=60), None],
+        b"ms" => [of(MODSWITCHES_WRAP, 2, 1..=60), None],
+        b"enc" => [of(ENCODED_WRAP, 2, 1..=3600), of(LEVEL_WRAP, 3, 1..=top_level)],
+        _ => [None; 2],
+    };
+    wraps.into_iter().flatten().collect()
+}
+
+/// The half of the bits, 0 the lower, in which a circuit's constant number and the schedule's for it differ; none where both halves do.
+fn half_that_differs(circuit: &[u8], schedule: &[u8], place: u32) -> Option<usize> {
+    let mut kept = schedule.split(|&byte| byte == b'\n').skip(1).filter(|line| !is_struck(line));
+    let [one, other] =
+        [line_at(circuit, place), kept.nth(place as usize - 2)?].map(|line| line.strip_prefix(b"const\t").and_then(number_of));
+    match one? ^ other? {
+        low if low >> 16 == 0 => Some(0),
+        high if high & 0xffff == 0 => Some(1),
+        _ => None,
+    }
+}
+
+fn is_struck(line: &[u8]) -> bool {
+    matches!(line.get(..2), Some(b"ms" | b"us" | b"rs" | b"en"))
 }
 
 impl Coverage {
@@ -200,6 +271,10 @@ impl Coverage {
                 self.count_file(Place::CheckCircuit, 1, call.first, reply);
                 if !is_reading(reply.number) || reply.file == 2 {
                     self.count_file(Place::CheckSchedule, 2, call.second, reply);
+                }
+                if reply.number == 12 && reply.place > 1 {
+                    let half = half_that_differs(call.first, call.second, reply.place);
+                    half.into_iter().for_each(|side| self.count(ANOTHER_CONSTANT, side, Place::CheckCircuit));
                 }
             }
         }
@@ -248,31 +323,45 @@ impl Coverage {
 
     /// A file that was read whole: which of its numbers and lines are the last that are taken.
     fn count_taken(&mut self, place: Place, text: &[u8]) {
-        let mut found = [false; ROWS.len()];
+        let mut found = [[false; 2]; ROWS.len()];
         let mut lines = text.split(|&byte| byte == b'\n');
         let header = lines.next().unwrap_or_default().split(|&byte| byte == b'\t').skip(1);
         for (number, field) in header.enumerate().take(3) {
-            found[HEADER_LOW + number] = field == b"1";
-            found[HEADER_HIGH + number] = field == b"60";
+            found[HEADER_LOW + number][TAKEN] = field == b"1";
+            found[HEADER_HIGH + number][TAKEN] = field == b"60";
         }
         let (mut count, mut kept) = (0, 0);
         for line in lines.filter(|line| !line.is_empty()) {
             count += 1;
-            kept += usize::from(!matches!(&line[..2], b"ms" | b"us" | b"rs" | b"en"));
+            kept += usize::from(!is_struck(line));
             if let Some(row) = limit_of(line, TAKEN) {
-                found[row] = true;
+                found[row][TAKEN] = true;
             }
+            // Once the last that was taken and the first that was not: both are taken.
+            found[SIXTEEN_BITS][0] |= line == b"const\t65535";
+            found[SIXTEEN_BITS][1] |= line == b"const\t65536";
         }
-        found[CIRCUIT_LIMIT] = count == CIRCUIT_LINES && CIRCUITS.contains(&place);
-        found[SCHEDULE_LIMIT] = count == SCHEDULE_LINES;
-        found[KEPT_LIMIT] = kept == KEPT_LINES && place == Place::Erase;
-        (0..ROWS.len()).filter(|&row| found[row]).for_each(|row| self.count(row, TAKEN, place));
+        found[CIRCUIT_LIMIT][TAKEN] = count == CIRCUIT_LINES && CIRCUITS.contains(&place);
+        found[SCHEDULE_LIMIT][TAKEN] = count == SCHEDULE_LINES;
+        found[KEPT_LIMIT][TAKEN] = kept == KEPT_LINES && place == Place::Erase;
+        found[CIRCUIT_LENGTH][TAKEN] = text.len() == CIRCUIT_BYTES && CIRCUITS.contains(&place);
+        found[SCHEDULE_LENGTH][TAKEN] = text.len() == SCHEDULE_BYTES;
+        for (row, sides) in found.iter().enumerate() {
+            (0..2).filter(|&side| sides[side]).for_each(|side| self.count(row, side, place));
+        }
     }
 
     /// A file that was refused while it was read: which limit the refused line passes.
     fn count_refused(&mut self, place: Place, text: &[u8], reply: Reply) {
         let line = line_at(text, reply.place);
         let fields: Vec<&[u8]> = line.split(|&byte| byte == b'\t').skip(1).collect();
+        if text.len() == CIRCUIT_BYTES + 1 && CIRCUITS.contains(&place) {
+            self.count(CIRCUIT_LENGTH, REFUSED, place);
+        }
+        if text.len() == SCHEDULE_BYTES + 1 {
+            self.count(SCHEDULE_LENGTH, REFUSED, place);
+        }
+        self.count_wraps(place, text, reply);
         match reply.number {
             1 if fields.iter().any(|field| is_digits(field, 12)) => self.count(DIGITS, REFUSED, place),
             2 | 4 | 11 if fields.iter().any(|field| is_digits(field, 11)) => self.count(DIGITS, TAKEN, place),
@@ -285,6 +374,23 @@ impl Coverage {
             11 => limit_of(line, REFUSED).into_iter().for_each(|row| self.count(row, REFUSED, place)),
             _ => {}
         }
+    }
+
+    /// A line refused for a number that is legal modulo a power of two.
+    fn count_wraps(&mut self, place: Place, text: &[u8], reply: Reply) {
+        let line = line_at(text, reply.place);
+        let fields = || line.split(|&byte| byte == b'\t').skip(1);
+        let top_level = || line_at(text, 1).rsplit(|&byte| byte == b'\t').next().and_then(number_of).unwrap_or(0);
+        let wraps = match reply.number {
+            2 => fields().filter_map(|field| power_past(field, 1..=60)).map(|power| (HEADER_WRAP, power)).collect(),
+            4 if reply.place > 2 => {
+                let last = u64::from(reply.place) - 3;
+                fields().take(2).filter_map(|field| power_past(field, 0..=last)).map(|power| (OPERAND_WRAP, power)).collect()
+            }
+            11 => wraps_of(line, top_level()),
+            _ => Vec::new(),
+        };
+        wraps.into_iter().for_each(|(row, power)| self.count(row, power, place));
     }
 
     /// A header refused with 2: one number that is just outside, the others inside.
@@ -328,7 +434,7 @@ impl Coverage {
     pub fn print(&self, asked: &Asked) -> bool {
         let places = if asked.only_plan { &PLACES[..1] } else { &PLACES };
         let heads: Vec<String> = places.iter().map(|(_, name)| format!("{name:>17}")).collect();
-        println!("{:<27}{}", "what was tried", heads.concat());
+        println!("{:<31}{}", "what was tried", heads.concat());
         let mut enough = true;
         for (row, counts) in ROWS.iter().zip(&self.counts) {
             let least = match row.class {
@@ -351,7 +457,7 @@ impl Coverage {
                 false => "-".to_string(),
             });
             let cells: Vec<String> = cells.map(|cell| format!("{cell:>17}")).collect();
-            println!("{:<27}{}", row.name, cells.concat());
+            println!("{:<31}{}", row.name, cells.concat());
         }
         enough
     }
@@ -381,7 +487,7 @@ mod tests {
 
     #[test]
     fn limits_are_counted_on_their_sides() {
-        let constants = counted(&[("circuit 60 20 1/const 65535/", 99), ("circuit 60 20 1/const 65536/", 99)]);
+        let constants = counted(&[("circuit 60 20 1/const 4294967295/", 99), ("circuit 60 20 1/const 4294967296/", 99)]);
         assert_eq!(row(&constants, CONSTANT), [1, 1]);
         assert_eq!([row(&constants, 0)[0], row(&constants, 11)[0]], [1, 1]);
         let headers = counted(&[("circuit 60 20 1/", 99), ("circuit 61 20 1/", 99), ("circuit 61 61 1/", 99)]);
@@ -390,6 +496,32 @@ mod tests {
         assert_eq!(row(&digits, DIGITS), [1, 1]);
         let lines = ["in/".repeat(256), "in/".repeat(257)].map(|lines| format!("circuit 60 20 1/{lines}"));
         assert_eq!(row(&counted(&[(&lines[0], 9999), (&lines[1], 9999)]), CIRCUIT_LIMIT), [1, 1]);
+    }
+
+    #[test]
+    fn numbers_past_a_power_are_counted_where_they_are_refused() {
+        let constants = counted(&[("circuit 60 20 1/const 65535/const 65536/", 99), ("circuit 60 20 1/const 65536/", 99)]);
+        assert_eq!([row(&constants, SIXTEEN_BITS), row(&constants, CONSTANT)], [[1, 2], [0, 0]]);
+        let headers =
+            counted(&[("circuit 65537 20 1/", 99), ("circuit 60 20 4294967356/", 99), ("circuit 60 20 4294967357/", 99)]);
+        assert_eq!(row(&headers, HEADER_WRAP), [1, 1]);
+        let lines = ["neg 65536/", "add 0 4294967296/", "neg 65537/", "rot 0 -65537/", "rot 0 4294967297/", "rot 0 98304/"];
+        let lines = lines.map(|line| format!("circuit 60 20 1/in/{line}"));
+        let lines = counted(&lines.each_ref().map(|line| (&line[..], 99)));
+        assert_eq!([row(&lines, OPERAND_WRAP), row(&lines, ROTATION_WRAP)], [[1, 1], [1, 1]]);
+        assert_eq!(wraps_of(b"enc\t0\t65537\t4294967298", 2), [(ENCODED_WRAP, 0), (LEVEL_WRAP, 1)]);
+        assert_eq!(wraps_of(b"enc\t0\t65536\t4294967299", 2), []);
+        assert_eq!(wraps_of(b"rs\t0\t4294967356", 2), [(RESCALES_WRAP, 1)]);
+    }
+
+    #[test]
+    fn constants_that_differ_in_one_half() {
+        let half = |one: &str, other: &str| {
+            let schedule = format!("schedule\t60\t20\t1\nin\nus\t0\t1\nconst\t{other}\n");
+            half_that_differs(format!("circuit\t60\t20\t1\nin\nconst\t{one}\n").as_bytes(), schedule.as_bytes(), 3)
+        };
+        assert_eq!([half("7", "8"), half("7", "65543"), half("4294967295", "65535")], [Some(0), Some(1), Some(1)]);
+        assert_eq!(half("7", "65544"), None);
     }
 
     #[test]
@@ -410,9 +542,12 @@ mod tests {
         ];
         let more = [
             (HEADER_HIGH, "F = 60 | 61"),
-            (CONSTANT, "const 65535 | 65536"),
+            (CONSTANT, "const 4294967295 | 4294967296"),
             (UPSCALE, "us by 3600 | 3601"),
             (DIGITS, "field of 11 | 12 digits"),
+            (SIXTEEN_BITS, "const 65535, 65536 read"),
+            (HEADER_WRAP, "header + 2^16 | + 2^32"),
+            (MODSWITCHES_WRAP, "ms by + 2^16 | + 2^32"),
         ];
         assert!(names.iter().chain(&more).all(|&(row, name)| ROWS[row].name == name));
         assert_eq!(BUFFER, ROWS.len() - 1);

@@ -10,7 +10,7 @@ pub type Vector = Vec<Big>;
 /// length of at least 1.
 pub struct Handed {
     pub inputs: Vec<Vector>,
-    pub constants: HashMap<u16, Vector>,
+    pub constants: HashMap<u32, Vector>,
 }
 
 /// What a line of the scale machine holds; "a bare `const` holds no scale".
@@ -202,6 +202,21 @@ mod tests {
         assert_eq!(plain[5], [625, 0, 9].map(Big::from_i64).to_vec());
         let Ok(held) = scale_machine(&schedule, &handed()) else { panic!("stopped") };
         assert_eq!(held[11].standing, Some((40, 1)));
+        assert_eq!(first_wrong_line(&schedule, &held, &plain), None);
+    }
+
+    /// One vector for each constant number, over the whole range.
+    #[test]
+    fn each_constant_number_has_a_vector() {
+        let numbers = [7, 65_543, 2_147_483_655, 4_294_967_295];
+        let vectors = numbers.iter().enumerate().map(|(n, &number)| (number, vec![Big::from_i64(n as i64 + 2)]));
+        let handed = Handed { inputs: vec![vec![Big::from_i64(1)]], constants: vectors.collect() };
+        let constants = numbers.map(|number| format!("const {number}/")).concat();
+        let circuit = file(&format!("circuit 60 20 9/in/{constants}mul 0 1/mul 5 2/mul 6 3/mul 7 4/"), Reading::Circuit);
+        let plain = plain_machine(&circuit, &handed);
+        assert_eq!(plain[8], vec![Big::from_i64(2 * 3 * 4 * 5)]);
+        let Ok(schedule) = crate::plan::plan_of(&circuit) else { panic!("refused") };
+        let Ok(held) = scale_machine(&schedule, &handed) else { panic!("stopped") };
         assert_eq!(first_wrong_line(&schedule, &held, &plain), None);
     }
 

@@ -117,6 +117,41 @@ mod tests {
         assert_eq!(program(&bytes("circuit 60 20 1/in/mul 0 0/mul 1 1/")), b"refused\t6\t4\n");
     }
 
+    /// The worked listing with other constant numbers: they are copied, and nothing else of the plan moves.
+    #[test]
+    fn constant_numbers_come_back() {
+        for number in ["0", "65535", "65536", "65543", "4294967294", "4294967295"] {
+            let circuit = bytes(&format!("circuit 60 20 2/in/const {number}/mul 0 1/mul 2 1/mul 3 3/out 4/"));
+            let schedule = bytes(&format!(
+                "schedule 60 20 2/in/const {number}/enc 1 20 2/mul 0 2/enc 1 20 2/mul 3 4/us 5 20/rs 6 1/us 5 20/rs 8 1/mul 7 9/out 10/"
+            ));
+            assert_eq!(program(&circuit), schedule);
+            assert_eq!(check(&circuit, &schedule), Reply::success(0));
+            let mut out = vec![b'#'; circuit.len() + 3];
+            assert_eq!(erase(&schedule, &mut out), Reply::success(circuit.len() as u32));
+            assert_eq!(out, [&circuit[..], b"###"].concat());
+            assert_eq!(erase(&schedule, &mut out[..circuit.len() - 1]), Reply::too_short());
+            assert_eq!(least_level(&circuit), Reply::success(2));
+        }
+    }
+
+    #[test]
+    fn constant_numbers_too_large() {
+        let refused = |number, file, place| Reply { number, file, place, length: 0 };
+        for (number, reply) in [("4294967296", 11), ("4294967303", 11), ("99999999999", 11), ("100000000000", 1)] {
+            let circuit = bytes(&format!("circuit 60 20 2/in/const {number}/mul 0 1/"));
+            let schedule = bytes(&format!("schedule 60 20 2/in/const {number}/enc 1 20 2/mul 0 2/"));
+            let mut out = [b'#'; 200];
+            assert_eq!(plan(&circuit, &mut out), refused(reply, 1, 3));
+            assert_eq!(erase(&schedule, &mut out), refused(reply, 1, 3));
+            assert!(out.iter().all(|&byte| byte == b'#'));
+            assert_eq!(least_level(&circuit), refused(reply, 1, 3));
+            assert_eq!(check(&circuit, &schedule), refused(reply, 1, 3));
+            assert_eq!(check(&bytes("circuit 60 20 2/in/const 7/mul 0 1/"), &schedule), refused(reply, 2, 3));
+            assert_eq!(program(&circuit), format!("refused\t{reply}\t3\n").into_bytes());
+        }
+    }
+
     #[test]
     fn worked_header_only() {
         let mut out = [b'#'; 20];

@@ -8,7 +8,7 @@ pub const SCHEDULE_LINES: usize = 1792;
 pub const KEPT_LINES: usize = 256;
 /// "A field that is no number gives 1, as does one over 11 bytes."
 const FIELD_BYTES: usize = 11;
-/// The longest line is an `enc` of 17 bytes, the longest header has 18.
+/// The longest lines are an `enc` and a `const` of 17 bytes, the longest header has 18.
 pub const TEXT_BYTES: usize = 18 + 17 * SCHEDULE_LINES;
 
 /// F is the rescale factor, W the waterline, L the top level.
@@ -23,7 +23,7 @@ pub struct Header {
 #[derive(Clone, Copy, PartialEq, Eq, Debug)]
 pub enum Line {
     In,
-    Const { number: u16 },
+    Const { number: u32 },
     Neg { a: u16 },
     Rot { a: u16, by: i16 },
     Add { a: u16, b: u16 },
@@ -308,7 +308,8 @@ impl Number {
     fn in_range(self, value: i64, header: &Header) -> bool {
         match self {
             Number::Operand => true,
-            Number::Constant => (0..=65_535).contains(&value),
+            // "A constant number runs from 0 to 4294967295", document 02, Job 1.
+            Number::Constant => (0..=4_294_967_295).contains(&value),
             Number::Rotation => (-32_767..=32_767).contains(&value),
             Number::Scale => (1..=3600).contains(&value),
             Number::Level => (1..=i64::from(header.top_level)).contains(&value),
@@ -411,7 +412,7 @@ fn line_of(record: &Record) -> Line {
     let a = first as u16;
     match record.word {
         Word::In => Line::In,
-        Word::Const => Line::Const { number: first as u16 },
+        Word::Const => Line::Const { number: first as u32 },
         Word::Neg => Line::Neg { a },
         Word::Rot => Line::Rot { a, by: second as i16 },
         Word::Add => Line::Add { a, b: second as u16 },
@@ -445,12 +446,12 @@ impl Text {
     }
 
     /// A tab and a number.
-    fn put_number(&mut self, number: i32) {
+    fn put_number(&mut self, number: i64) {
         self.put(b'\t');
         if number < 0 {
             self.put(b'-');
         }
-        let mut digits = [0; 10];
+        let mut digits = [0; FIELD_BYTES];
         let mut count = 0;
         let mut left = number.unsigned_abs();
         loop {
@@ -467,7 +468,7 @@ impl Text {
         }
     }
 
-    fn put_record(&mut self, word: &[u8], numbers: &[i32]) {
+    fn put_record(&mut self, word: &[u8], numbers: &[i64]) {
         for &byte in word {
             self.put(byte);
         }
@@ -478,18 +479,18 @@ impl Text {
     }
 
     fn put_line(&mut self, line: Line) {
-        let n = i32::from;
+        let n = i64::from;
         match line {
             Line::In => self.put_record(b"in", &[]),
-            Line::Const { number } => self.put_record(b"const", &[i32::from(number)]),
+            Line::Const { number } => self.put_record(b"const", &[i64::from(number)]),
             Line::Neg { a } => self.put_record(b"neg", &[n(a)]),
-            Line::Rot { a, by } => self.put_record(b"rot", &[n(a), i32::from(by)]),
+            Line::Rot { a, by } => self.put_record(b"rot", &[n(a), i64::from(by)]),
             Line::Add { a, b } => self.put_record(b"add", &[n(a), n(b)]),
             Line::Mul { a, b } => self.put_record(b"mul", &[n(a), n(b)]),
             Line::Out { a } => self.put_record(b"out", &[n(a)]),
-            Line::Enc { a, scale, level } => self.put_record(b"enc", &[n(a), n(scale), i32::from(level)]),
-            Line::Rescale { a, count } => self.put_record(b"rs", &[n(a), i32::from(count)]),
-            Line::Modswitch { a, count } => self.put_record(b"ms", &[n(a), i32::from(count)]),
+            Line::Enc { a, scale, level } => self.put_record(b"enc", &[n(a), n(scale), i64::from(level)]),
+            Line::Rescale { a, count } => self.put_record(b"rs", &[n(a), i64::from(count)]),
+            Line::Modswitch { a, count } => self.put_record(b"ms", &[n(a), i64::from(count)]),
             Line::Upscale { a, bits } => self.put_record(b"us", &[n(a), n(bits)]),
         }
     }
@@ -498,7 +499,7 @@ impl Text {
 /// Writes a file under the header word of `reading`.
 pub fn write(file: &File, reading: Reading, text: &mut Text) {
     let Header { factor, waterline, top_level } = file.header;
-    text.put_record(reading.header_word(), &[factor, waterline, top_level]);
+    text.put_record(reading.header_word(), &[factor, waterline, top_level].map(i64::from));
     for &line in file.lines() {
         text.put_line(line);
     }
@@ -557,7 +558,53 @@ mod tests {
         assert_eq!(circuit("circuit 60 20 1/in/rot 0 99999999999/"), Some((11, 3)));
         assert_eq!(circuit("circuit 60 20 1/in/neg 99999999999/"), Some((4, 3)));
         assert_eq!(circuit("circuit 60 20 1/in/neg -1/"), Some((1, 3)));
-        assert_eq!(circuit("circuit 60 20 1/const 65535/const 65536/"), Some((11, 3)));
+        assert_eq!(circuit("circuit 60 20 1/const 4294967295/const 4294967296/"), Some((11, 3)));
+    }
+
+    /// "A constant number runs from 0 to 4294967295", in circuits and in schedules.
+    #[test]
+    fn constant_numbers() {
+        let both = |line: &str| {
+            let [one, other] = [circuit(&format!("circuit 60 20 1/{line}/")), schedule(&format!("schedule 60 20 1/{line}/"))];
+            assert_eq!(one, other, "{line}");
+            one
+        };
+        for taken in ["0", "65535", "65536", "65537", "2147483648", "4294967294", "4294967295"] {
+            assert_eq!(both(&format!("const {taken}")), None, "{taken}");
+        }
+        for large in ["4294967296", "4294967297", "9999999999", "10000000000", "99999999999"] {
+            assert_eq!(both(&format!("const {large}")), Some((11, 2)), "{large}");
+        }
+        for bad in ["100000000000", "04294967295", "-1", "+1", "4294967295x", "4294967296 1", "4294967296 x", "4294967296 "] {
+            assert_eq!(both(&format!("const {bad}")), Some((1, 2)), "{bad}");
+        }
+    }
+
+    /// No number is taken for what is left of it modulo two to the 16 or to the 32.
+    #[test]
+    fn numbers_that_would_wrap() {
+        for number in ["65537", "4294967297"] {
+            for header in [format!("{number} 20 1"), format!("60 {number} 1"), format!("60 20 {number}")] {
+                assert_eq!(circuit(&format!("circuit {header}/")), Some((2, 1)), "{header}");
+                assert_eq!(schedule(&format!("schedule {header}/")), Some((2, 1)), "{header}");
+            }
+            let forms = ["rot 0 N", "rot 0 -N", "enc 1 N 1", "enc 1 20 N", "us 0 N", "rs 0 N", "ms 0 N"];
+            for line in forms.map(|form| form.replace('N', number)) {
+                assert_eq!(schedule(&format!("schedule 60 20 1/in/const 1/{line}/")), Some((11, 4)), "{line}");
+            }
+        }
+        assert_eq!(circuit("circuit 60 20 1/in/rot 0 4294967297/"), Some((11, 3)));
+        for operand in ["65536", "4294967296"] {
+            let circuit_forms = ["neg N", "rot N 1", "add N 0", "add 0 N", "mul N 0", "mul 0 N", "out N"];
+            for line in circuit_forms.map(|form| form.replace('N', operand)) {
+                assert_eq!(circuit(&format!("circuit 60 20 1/in/{line}/")), Some((4, 3)), "{line}");
+                assert_eq!(schedule(&format!("schedule 60 20 1/in/{line}/")), Some((4, 3)), "{line}");
+            }
+            for line in ["us N 1", "rs N 1", "ms N 1", "enc N 20 1"].map(|form| form.replace('N', operand)) {
+                let first = if line.starts_with("enc") { "const 1" } else { "in" };
+                assert_eq!(schedule(&format!("schedule 60 20 1/{first}/{line}/")), Some((4, 3)), "{line}");
+            }
+        }
     }
 
     #[test]
@@ -570,6 +617,29 @@ mod tests {
         assert_eq!(circuit(&format!("{base}neg 3/")), Some((4, 5)));
         assert_eq!(circuit(&format!("{base}add 1 1/")), Some((5, 5)));
         assert_eq!(circuit(&format!("{base}enc 1 20 1/")), Some((1, 5)));
+    }
+
+    /// All form before all ranges, these before every 4, and that before every 5, with numbers past two to the 16 and to the 32.
+    #[test]
+    fn order_of_two_faults() {
+        let base = "schedule 60 20 1/in/const 1/out 0/";
+        let of_line = |line: &str| schedule(&format!("{base}{line}/"));
+        for line in ["rot 4294967296 x", "enc 1 4294967297 x", "enc x 20 4294967297", "us x 65537", "us 0 99999999999 0"] {
+            assert_eq!(of_line(line), Some((1, 5)), "{line}");
+        }
+        for line in
+            ["rot 65536 65537", "us 4294967296 4294967297", "rs 2 65537", "rot 1 65537", "enc 0 4294967297 1", "ms 1 61"]
+        {
+            assert_eq!(of_line(line), Some((11, 5)), "{line}");
+        }
+        for line in ["add 1 65536", "mul 4294967296 1", "mul 1 2", "add 4294967297 1"] {
+            assert_eq!(of_line(line), Some((4, 5)), "{line}");
+        }
+        for line in ["add 1 1", "neg 1", "enc 0 20 1", "us 1 1"] {
+            assert_eq!(of_line(line), Some((5, 5)), "{line}");
+        }
+        // A fault further down does not hide one above it.
+        assert_eq!(of_line("const 4294967296/x"), Some((11, 5)));
     }
 
     #[test]
@@ -610,9 +680,24 @@ mod tests {
 
     #[test]
     fn text_and_table_are_inverse() {
-        let shown = "schedule 60 20 2/in/const 65535/enc 1 3600 2/mul 0 2/us 3 20/rs 4 1/ms 5 60/rot 6 -32767/out 7/";
-        let bytes = shown.replace('/', "\n").replace(' ', "\t");
-        let Ok(file) = file_of(bytes.as_bytes(), Reading::Schedule) else { panic!("refused") };
-        assert_eq!(bytes_of(&file, Reading::Schedule), bytes.as_bytes());
+        for number in [0, 9, 10, 65_535, 65_536, 99_999, 100_000, 1_000_000_000, 4_294_967_295u32] {
+            let shown = "schedule 60 20 2/in/const K/enc 1 3600 2/mul 0 2/us 3 20/rs 4 1/ms 5 60/rot 6 -32767/out 7/";
+            let bytes = shown.replace('K', &number.to_string()).replace('/', "\n").replace(' ', "\t");
+            let Ok(file) = file_of(bytes.as_bytes(), Reading::Schedule) else { panic!("refused") };
+            assert!(file.lines().contains(&Line::Const { number }));
+            assert_eq!(bytes_of(&file, Reading::Schedule), bytes.as_bytes());
+        }
+    }
+
+    #[test]
+    fn the_longest_files() {
+        let circuit = format!("circuit\t60\t60\t60\n{}", "const\t4294967295\n".repeat(CIRCUIT_LINES));
+        assert_eq!(circuit.len(), 4_369);
+        let Ok(file) = file_of(circuit.as_bytes(), Reading::Circuit) else { panic!("refused") };
+        assert_eq!(bytes_of(&file, Reading::Circuit), circuit.as_bytes());
+        let schedule = format!("schedule\t60\t60\t60\n{}", "const\t4294967295\n".repeat(SCHEDULE_LINES));
+        assert_eq!(schedule.len(), TEXT_BYTES);
+        let Ok(file) = file_of(schedule.as_bytes(), Reading::Schedule) else { panic!("refused") };
+        assert_eq!(bytes_of(&file, Reading::Schedule), schedule.as_bytes());
     }
 }

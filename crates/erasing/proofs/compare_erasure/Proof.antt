@@ -25,7 +25,7 @@ compare-erasure-spec =
     (λ c κs. search compare-laws)
     (λ c. search compare-laws)
     (λ c. search compare-laws)
-    (λ c κs. (search compare-laws, (search compare-laws, search compare-laws)))
+    (λ c κs. (search compare-laws, (search compare-laws, (search compare-laws, search compare-laws))))
     (λ c. search compare-laws)
     (λ c. search compare-laws)
     (λ c. search compare-laws)

@@ -1,7 +1,6 @@
 -- `erasing::erase_table` meets its contract: the loop's invariant is `Filling`; the measure is what is left of the schedule. Assumes nothing.
 use Prim.Native.Nat.{_-_}
 use mathlib.Core.Logic.{⊎-elim}
-use borrow.Author.Needs.{needs}
 use Rattle.erasing.proofs.Filling.{Filling, after-kept, after-struck, filling-laws}
 use Rattle.erasing.proofs.erase_table.Statement.{statement}
 use Rattle.erasing.proofs.erase_table.Tie as tie
@@ -19,12 +18,7 @@ erase-table-spec =
     Inv-loop
     μ-loop
     (λ c. search filling-laws)
-    (λ c κs. search filling-laws)
-    (λ c. search filling-laws)
-    (λ c. search filling-laws)
-    (λ c. search filling-laws)
-    (λ c. search filling-laws)
-    (λ c κs. search filling-laws)
+    (λ c κs. (search filling-laws, (search filling-laws, (search filling-laws, search filling-laws))))
     (λ c. search filling-laws)
     (λ c. search filling-laws)
     (λ c. search filling-laws)
@@ -33,10 +27,10 @@ erase-table-spec =
     (λ c. search filling-laws)
     (λ c. search filling-laws)
     (λ c. search filling-laws)
-    (λ c. let turn = c .before .before .before in
-    ⊎-elim (λ w. search after-struck)
-    (λ w. after-kept _ _ _ _ _ _ (turn .before .loop .inv) (search needs) _ (c .before .erase-line .ensures) _ _ _ _ (search needs) _
-    (w .3 .ensures .1) (search needs) (search needs) (search needs))
-    (c .match .came))
+    (λ c. search filling-laws)
+    (λ c. search filling-laws)
+    (λ c. search filling-laws)
+    (λ c. search filling-laws)
+    (λ c. ⊎-elim (λ w. search after-struck) (λ w. search after-kept) (c .match .came))
     (λ c. search filling-laws)
     (λ c. (search filling-laws, search filling-laws)))

@@ -10,6 +10,7 @@ goes-on-with-spec =
     tie.close
     (tie.spec
     (λ c. let ended : c .before .args .size ≤ c .before .args .at = omega arith in search circuit-ends)
-    (λ c κs. omega arith)
+    (λ c. search next-laws)
+    (λ c. omega arith)
     (λ c κs. search next-laws)
     (λ c. search next-laws))

@@ -15,4 +15,5 @@ amount-at-spec =
     (λ c. search place-laws)
     (λ c. search place-laws)
     (λ c. search place-laws)
+    (λ c κs. search place-laws)
     (λ c. search place-laws))

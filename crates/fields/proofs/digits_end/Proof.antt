@@ -7,10 +7,10 @@ use Rattle.fields.proofs.digits_end.Statement.{statement}
 use Rattle.fields.proofs.digits_end.Tie as tie
 
 abbrev Inv-loop : tie.InvT-loop
-Inv-loop s at limit i₀ i = DigitsTo s at i
+Inv-loop s at i₀ i = DigitsTo s at i
 
 abbrev μ-loop : tie.MeasureT-loop
-μ-loop s at limit i₀ i = limit - i
+μ-loop s at i₀ i = length s - i
 
 pub digits-end-spec : {M : Type 1} → statement M
 digits-end-spec =
@@ -18,7 +18,6 @@ digits-end-spec =
     (tie.spec
     Inv-loop
     μ-loop
-    (λ c κs. search digits-laws)
     (λ c. search digits-laws)
     (λ c. search digits-laws)
     (λ c. search digits-laws)

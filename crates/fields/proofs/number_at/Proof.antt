@@ -15,5 +15,5 @@ number-at-spec =
     (λ c. search place-laws)
     (λ c. search place-laws)
     (λ c. search place-laws)
-    (λ c. search place-laws)
+    (λ c κs. search place-laws)
     (λ c. search place-laws))

@@ -11,7 +11,5 @@ read-number-spec =
     (λ c. search number-laws)
     (λ c κs. search number-laws)
     (λ c. search number-laws)
-    (λ c. search number-laws)
-    (λ c. search number-laws)
     (λ c κs. search number-laws)
     (λ c. search number-laws))

@@ -11,7 +11,7 @@ field-after-spec =
     (λ c κs. search field-laws)
     (λ c. search field-laws)
     (λ c. let a = c .before .before .before .args in
-    let inside = field-within (a .signed) (a .text .now) (a .at) (c .before .is-at .result) (c .before .is-at .ensures) (search field-laws) in
+    let inside = field-within (a .signed) (a .largest) (a .text .now) (a .at) (c .before .is-at .result) (c .before .is-at .ensures) (search field-laws) in
     search needs)
     (λ c κs. search field-laws)
     (λ c. search field-laws))

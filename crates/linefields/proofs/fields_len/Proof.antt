@@ -12,7 +12,6 @@ fields-len-spec =
     (λ c. search needs)
     (λ c. search needs)
     (λ c. search needs)
-    (λ c. search needs)
     (λ c κs. search (lengths, line-fields))
     (λ c. search needs)
     (λ c. search needs)

@@ -14,7 +14,6 @@ put-fields-spec =
     (λ c κs. search (puts, line-fields))
     (λ c. search needs)
     (λ c. search needs)
-    (λ c. search needs)
     (λ c κs. search (puts, line-fields))
     (λ c. search needs)
     (λ c. search needs)

@@ -1,7 +1,7 @@
 -- `lines::read_line` meets its contract: one law for each return. Assumes nothing.
 use Prim.Native.Nat.{_+_, _≤_}
 use lib.ListN.{length}
-use Rattle.lines.proofs.ReadLaws.{past-within, line-laws}
+use Rattle.lines.proofs.ReadLaws.{past-within, held-few, line-laws}
 use Rattle.lines.proofs.read_line.Statement.{statement}
 use Rattle.lines.proofs.read_line.Tie as tie
 
@@ -14,16 +14,25 @@ read-line-spec =
     (λ c κs. search line-laws)
     (λ c. search line-laws)
     (λ c κs. search line-laws)
-    (λ c κs. search line-laws)
     (λ c. search line-laws)
     (λ c. search line-laws)
-    (λ c. let start = c .before .before .before .before .before .before .before .before .before in
+    (λ c. search line-laws)
+    (λ c. let start = c .before .before .before .before .before .before .before .before in
     let a = start .args in
     let g = c .before .first .given in
     let inside : g .0 .1 .1 .1 .0 + 1 ≤ length (a .text .now) = search past-within in
     search line-laws)
     (λ c κs. search line-laws)
-    (λ c κs. let start = c .before .before .before .before .before .before .before .before .before .before in
-    (search line-laws, (search line-laws, (search line-laws, (search line-laws, (search line-laws, search line-laws))))))
+    (λ c κs. let start = c .before .before .before .before .before .before .before .before .before in
+    (search line-laws, (search line-laws, (search line-laws, search line-laws))))
     (λ c. search line-laws)
-    (λ c. search line-laws))
+    (λ c. search line-laws)
+    (λ c. let start = c .before .before .before .before .before .before .before .before .before .before in
+    let a = start .args in
+    let is-word = c .before .before .before .before .before .before .before .before .is-word-of .ensures in
+    let other = c .before .before .before .before .before .before .before in
+    let numbers = c .before .before .before .before .before .numbers-of .ensures in
+    let short = held-few (a .records .now) (a .count) (search line-laws) in
+    let made = c .before .formed .ensures in
+    let judged = c .judge .ensures in
+    search line-laws))

@@ -1,4 +1,4 @@
--- The two machines and the plan on small files: each case's input is a file of its grammar, and the case ends as the table says.
+-- The two machines, the plan and the tests of one line more on small files: each case's input is a file of its grammar, and the case ends as the table says.
 use Prim.Native.Nat.{ℕ, _<_}
 use mathlib.Core.Path.{_≡_}
 use lib.Dec.{T}

@@ -1,4 +1,5 @@
--- `plan::main` is safe: it prints only bytes that are there. Assumes nothing.
+-- `plan::main` is safe: its buffer has room for the bytes that decide, and it prints only bytes that are there. Assumes nothing.
+use lib.Dec.{lit≤}
 use lib.ListN.{length}
 use Rattle.plan.proofs.Laws.{read-fits, main-laws}
 use Rattle.plan.proofs.main.Statement.{statement}
@@ -8,9 +9,8 @@ pub main-spec : {M : Type 1} → statement M
 main-spec =
     tie.close
     (tie.spec
-    (λ c κs. search main-laws)
     (λ c. search main-laws)
-    (λ c κs. search main-laws)
+    (λ c κs. lit≤ tt)
     (λ c. search main-laws)
     (λ c. search main-laws)
     (λ c. search main-laws)

@@ -10,6 +10,7 @@ line-from-spec =
     (λ c κs. search word-laws)
     (λ c. search word-laws)
     (λ c. search word-laws)
+    (λ c κs. search word-laws)
     (λ c. search word-laws)
     (λ c. search word-laws)
     (λ c κs. search word-laws)

@@ -11,6 +11,8 @@ record-of-spec =
     (λ c κs. search record-laws)
     (λ c. search record-laws)
     (λ c κs. search record-laws)
+    (λ c κs. search record-laws)
+    (λ c κs. search record-laws)
     (λ c. search record-laws)
     (λ c κs. search record-laws)
     (λ c. search record-laws)

@@ -1,4 +1,4 @@
--- "one defined reply": what a text that is not accepted comes to. Every text has a reading, since it is a function of the bytes; this says which
+-- Demand 1, "gets one reply": what a text that is not accepted comes to. Every text has a reading, since it is a function of the bytes; this says which
 -- refusals there are, where they stand, and that "files are read top to bottom": whatever follows the closed lines that a refusal was found in, it stays.
 use Prim.Native.Nat.{ℕ, _≤_}
 use mathlib.Core.Path.{_≡_}

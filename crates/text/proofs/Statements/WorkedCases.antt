@@ -126,8 +126,12 @@ pub record Statement : Type 0 where
   pub minus-before-zero : circuit (after-in (wordText Rot ∷ decimal 0 ∷ minus-zero ∷ [])) ≡ refused 1 3
   pub schedule-word : circuit (after-in (wordText Rs ∷ decimal 0 ∷ decimal 1 ∷ [])) ≡ refused 1 3
   -- ---- ranges
-  pub constant-most : circuit (fieldsText (wordText Const ∷ decimal 65535 ∷ [])) ≡ file (Lines.the-variants.Const 65535 ∷ [])
-  pub constant-over : circuit (fieldsText (wordText Const ∷ decimal 65536 ∷ [])) ≡ refused 11 2
+  -- document 02, Job 1: "A constant number runs from 0 to 4294967295." Document 01: "A field that is no number gives 1, as does one over 11 bytes."
+  pub constant-seventeen-bits : circuit (fieldsText (wordText Const ∷ decimal 65536 ∷ [])) ≡ file (Lines.the-variants.Const 65536 ∷ [])
+  pub constant-most : circuit (fieldsText (wordText Const ∷ decimal 4294967295 ∷ [])) ≡ file (Lines.the-variants.Const 4294967295 ∷ [])
+  pub constant-over : circuit (fieldsText (wordText Const ∷ decimal 4294967296 ∷ [])) ≡ refused 11 2
+  pub constant-eleven-digits : circuit (fieldsText (wordText Const ∷ decimal 99999999999 ∷ [])) ≡ refused 11 2
+  pub constant-twelve-digits : circuit (fieldsText (wordText Const ∷ decimal 100000000000 ∷ [])) ≡ refused 1 2
   pub turn-most : circuit (after-in (wordText Rot ∷ decimal 0 ∷ amountText (pos 32767) ∷ [])) ≡ file (Lines.the-variants.In ∷ Lines.the-variants.Rot 0 (pos 32767) ∷ [])
   pub turn-over : circuit (after-in (wordText Rot ∷ decimal 0 ∷ amountText (pos 32768) ∷ [])) ≡ refused 11 3
   pub turn-least : circuit (after-in (wordText Rot ∷ decimal 0 ∷ amountText (negsuc 32766) ∷ [])) ≡ file (Lines.the-variants.In ∷ Lines.the-variants.Rot 0 (negsuc 32766) ∷ [])

@@ -4,4 +4,4 @@ use Rattle.words.proofs.word_at.Statement.{statement}
 use Rattle.words.proofs.word_at.Tie as tie
 
 pub word-at-spec : {M : Type 1} → statement M
-word-at-spec = tie.close (tie.spec (λ c κs. search word-laws) (λ c κs. search word-laws) (λ c. search word-laws))
+word-at-spec = tie.close (tie.spec (λ c κs. search word-laws) (λ c κs. search word-laws) (λ c κs. search word-laws) (λ c. search word-laws))

@@ -7,6 +7,7 @@ use reference::library::Service;
 use reference::random::Random;
 use reference::services;
 use reference::text::{bytes_of, Reading};
+use std::collections::HashSet;
 use std::io::{self, Write};
 use std::process::{Command, ExitCode, Stdio};
 
@@ -14,9 +15,18 @@ const INPUTS: u64 = 2_400;
 const SEED: u64 = 20_260_101;
 /// What a run must have tried, whatever its number of inputs. The program has room for every plan.
 const ASKED: Asked = Asked { replies: 10, conversions: 50, limits: 1, buffers: 0, only_plan: true };
-/// The program reads no more than so many bytes; so many inputs must be longer.
-const READ_BYTES: usize = 4_096;
+/// The longest circuit has so many bytes.
+const CIRCUIT_BYTES: usize = 4_369;
+/// So many bytes decide, since a line of the form has at most 28; the program need not read more. So many inputs must be longer.
+const DECIDING_BYTES: usize = CIRCUIT_BYTES + 28;
 const ASKED_LONG: u64 = 50;
+/// From a limit to the next that is tried, so that those of a short run are spread over the list. It is a prime.
+const STRIDE: usize = 1_009;
+/// Far more than the program reads.
+const FAR: usize = 16_384;
+/// Lengths around the longest circuit, around the bytes that decide, and around what a program may have room for.
+const LENGTHS: [usize; 17] =
+    [4_095, 4_096, 4_097, 4_368, 4_369, 4_370, 4_379, 4_380, 4_395, 4_396, 4_397, 4_398, 4_399, 4_400, 4_401, 4_402, 8_192];
 
 /// What planning makes of an input, counted.
 fn count(input: &[u8], coverage: &mut Coverage) {
@@ -26,23 +36,70 @@ fn count(input: &[u8], coverage: &mut Coverage) {
     coverage.count_call(&call, reply, &out[..reply.length as usize]);
 }
 
-/// The circuits that stand at a limit.
+/// The circuits that stand at a limit, each once.
 fn limit_inputs() -> Vec<Vec<u8>> {
     let is_at_limit = |circuit: &Vec<u8>| {
         let mut coverage = Coverage::default();
         count(circuit, &mut coverage);
         coverage.is_at_limit()
     };
-    limits::all().into_iter().map(|pair| pair.circuit).filter(is_at_limit).collect()
+    let mut known = HashSet::new();
+    let circuits = limits::all().into_iter().map(|pair| pair.circuit);
+    circuits.filter(|circuit| known.insert(circuit.clone())).filter(is_at_limit).collect()
 }
 
-/// Circuits of all sizes, near their least level, damaged, at a limit, random words, and no text of the form at all. Of the limits each comes in turn.
-fn input(seed: u64, number: u64, limits: &[Vec<u8>]) -> Vec<u8> {
+/// A circuit that reads, of exactly so many bytes: constants of ten digits, and the last ones shorter.
+fn circuit_of_length(length: usize) -> Vec<u8> {
+    let mut text = b"circuit\t60\t60\t60\n".to_vec();
+    // A `const` line has 8 to 17 bytes.
+    while text.len() < length {
+        let left = length - text.len();
+        let line = match left {
+            ..=17 => left,
+            18..=24 => 8,
+            _ => 17,
+        };
+        text.extend_from_slice(b"const\t");
+        text.extend_from_slice(&b"4294967295"[..line - 7]);
+        text.push(b'\n');
+    }
+    text
+}
+
+/// Full circuits and nearly full ones, with more behind them up to each of the lengths.
+fn long_inputs() -> Vec<Vec<u8>> {
+    let [full, one_less] = [CIRCUIT_BYTES, CIRCUIT_BYTES - 17].map(circuit_of_length);
+    let mut list = Vec::new();
+    for length in LENGTHS {
+        if length <= CIRCUIT_BYTES {
+            list.push(circuit_of_length(length));
+        }
+        // Behind a full circuit; on its last line, which is closed, or not, or is of the form with the longest operands; and all in one line.
+        let filled = |start: &[u8], filling: &[u8], end: &[u8]| {
+            let room = length.saturating_sub(start.len() + end.len());
+            let filling = filling.iter().cycle().take(room);
+            start.iter().chain(filling).chain(end).copied().take(length).collect::<Vec<u8>>()
+        };
+        list.push(filled(&full, b"in\n", b""));
+        list.push(filled(&one_less, b"const\t4", b"\n"));
+        list.push(filled(&one_less, b"1", b""));
+        list.push(filled(&[&one_less[..], b"mul\t99999999999\t99999999999\n"].concat(), b"in\n", b""));
+        list.push(filled(b"circuit\t60\t60\t6", b"0", b"\n"));
+    }
+    let far = list.iter().map(|input| [&input[..], &b"in\n".repeat(FAR / 3)].concat()).collect::<Vec<_>>();
+    list.into_iter().chain(far).collect()
+}
+
+/// Circuits of all sizes, near their least level, damaged, at a limit, long, random words, and no text of the form at all. Of the limits
+/// and of the long ones each comes in turn.
+fn input(seed: u64, number: u64, limits: &[Vec<u8>], long: &[Vec<u8>]) -> Vec<u8> {
     let mut random = Random::new(seed, number);
     let (round, place) = (number / 12, number % 12);
     match place {
         3 | 7 => return damage::soup(&mut random, "circuit"),
-        8.. => return limits[(4 * round + place - 8) as usize % limits.len()].clone(),
+        4 if (round as usize) < long.len() => return long[round as usize].clone(),
+        // A stride that has no factor in common with the length: no limit comes again before all have come.
+        8.. => return limits[((4 * round + place - 8) as usize * STRIDE) % limits.len()].clone(),
         _ => {}
     }
     let mut circuit = if place == 6 { files::circuit_of_size(&mut random, 256) } else { files::circuit(&mut random) };
@@ -53,7 +110,7 @@ fn input(seed: u64, number: u64, limits: &[Vec<u8>]) -> Vec<u8> {
     match place {
         2 | 5 => damage::damage(&mut random, &text),
         // More than the program reads.
-        4 => text.repeat(1 + READ_BYTES / text.len()),
+        4 => text.repeat(1 + FAR / text.len()),
         _ => text,
     }
 }
@@ -79,14 +136,18 @@ fn main() -> ExitCode {
     let number = |at: usize, otherwise: u64| words.get(at).map_or(otherwise, |word| word.parse().expect("a number"));
     let path = words.first().expect("program PATH [INPUTS [SEED]]");
     let (inputs, seed) = (number(1, INPUTS), number(2, SEED));
-    let limits = limit_inputs();
+    let (limits, long_ones) = (limit_inputs(), long_inputs());
+    assert!(limits.len() % STRIDE != 0, "the stride passes over a part of {} limits", limits.len());
     let mut coverage = Coverage::default();
     let mut long = 0;
     for case in 0..inputs {
-        let given = input(seed, case, &limits);
+        let given = input(seed, case, &limits, &long_ones);
         let expected = services::program(&given);
         count(&given, &mut coverage);
-        long += u64::from(given.len() > READ_BYTES);
+        if let Some(deciding) = given.get(..DECIDING_BYTES).filter(|_| given.len() > DECIDING_BYTES) {
+            assert_eq!(services::program(deciding), expected, "the first bytes decide: input {case}, seed {seed}");
+            long += 1;
+        }
         match printed(path, &given) {
             Ok(output) if output == expected => {}
             other => {
@@ -96,7 +157,7 @@ fn main() -> ExitCode {
             }
         }
     }
-    println!("inputs longer than {READ_BYTES} bytes: {long}");
+    println!("limits: {} texts; inputs longer than the {DECIDING_BYTES} bytes that decide: {long}", limits.len());
     if !coverage.print(&ASKED) || long < ASKED_LONG {
         println!("program: no difference, but too little was tried: see the counts marked ! and the long inputs");
         return ExitCode::FAILURE;

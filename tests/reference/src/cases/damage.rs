@@ -6,8 +6,8 @@ use crate::text::{CIRCUIT_LINES, SCHEDULE_LINES};
 const WORDS: [&str; 17] =
     ["in", "const", "neg", "rot", "add", "mul", "out", "enc", "rs", "ms", "us", "circuit", "schedule", "IN", "inn", "i", ""];
 
-/// Fields at and past the limits, and fields that are no number.
-pub const FIELDS: [&str; 52] = [
+/// Fields at and past the limits, fields that are small or a limit modulo two to the 16 or to the 32, and fields that are no number.
+pub const FIELDS: [&str; 64] = [
     "",
     "-",
     "-0",
@@ -41,11 +41,23 @@ pub const FIELDS: [&str; 52] = [
     "-32768",
     "65535",
     "65536",
+    "65537",
+    "65596",
+    "-65537",
+    "69136",
+    "98303",
     "99999",
     "2147483647",
     "2147483648",
+    "4294967294",
     "4294967295",
     "4294967296",
+    "4294967297",
+    "4294967356",
+    "-4294967297",
+    "4294970896",
+    "4295000063",
+    "8589934593",
     "9999999999",
     "10000000000",
     "99999999999",
@@ -62,8 +74,11 @@ pub const FIELDS: [&str; 52] = [
     "18446744073709551616",
 ];
 
+/// Where a reader of too few bits would begin at 0 again.
+pub const POWERS: [i64; 2] = [1 << 16, 1 << 32];
+
 /// Bytes that mean something here, or nearly do.
-const BYTES: [u8; 20] = *b"\n\t\r -+0179aincmulo\0\xff";
+pub const BYTES: [u8; 20] = *b"\n\t\r -+0179aincmulo\0\xff";
 
 /// One to three changes.
 pub fn damage(random: &mut Random, text: &[u8]) -> Vec<u8> {
@@ -164,16 +179,21 @@ fn damage_field(random: &mut Random, text: &[u8]) -> Vec<u8> {
     };
     let mut fields: Vec<Vec<u8>> = content.split(|&byte| byte == b'\t').map(<[u8]>::to_vec).collect();
     let (field, other) = (random.below(fields.len()), random.below(fields.len()));
-    match random.below(11) {
+    match random.below(13) {
         0 => drop(fields.remove(field)),
         1 => fields.insert(field, fields[field].clone()),
         2 => fields.swap(field, other),
         3 | 4 => fields[field] = random.pick(&FIELDS).as_bytes().to_vec(),
         5 => fields[0] = random.pick(&WORDS).as_bytes().to_vec(),
         6 => fields[field].insert(0, random.pick(b"0-+ ")),
-        7 | 8 => limit_field(random, &mut fields),
+        7 | 8 | 11 => limit_field(random, &mut fields),
         9 => fields.push(random.pick(&FIELDS).as_bytes().to_vec()),
-        _ => fields[field] = moved_by_one(random, &fields[field]),
+        10 => fields[field] = moved_by_one(random, &fields[field]),
+        _ => {
+            // The word is no number.
+            let number = field.max(1).min(fields.len() - 1);
+            fields[number] = past_a_power(&fields[number], random.pick(&POWERS));
+        }
     }
     lines[at] = [fields.join(&b'\t'), end.to_vec()].concat();
     lines.concat()
@@ -183,7 +203,7 @@ fn damage_field(random: &mut Random, text: &[u8]) -> Vec<u8> {
 fn limit_field(random: &mut Random, fields: &mut [Vec<u8>]) {
     let (place, numbers): (usize, &[&str]) = match &fields[0][..] {
         b"circuit" | b"schedule" => (1 + random.below(3), &["0", "1", "60", "61"]),
-        b"const" => (1, &["65535", "65536"]),
+        b"const" => (1, &["65535", "65536", "4294967295", "4294967296"]),
         b"rot" => (2, &["32767", "32768", "-32767", "-32768"]),
         b"us" | b"enc" => (2, &["3600", "3601"]),
         b"rs" | b"ms" => (2, &["60", "61"]),
@@ -194,13 +214,20 @@ fn limit_field(random: &mut Random, fields: &mut [Vec<u8>]) {
     }
 }
 
+fn changed_number(field: &[u8], change: impl Fn(i64) -> i64) -> Vec<u8> {
+    let number = std::str::from_utf8(field).ok().and_then(|field| field.parse::<i64>().ok());
+    number.map_or(field.to_vec(), |number| change(number).to_string().into_bytes())
+}
+
 /// A number one more or one less; another field stays.
 fn moved_by_one(random: &mut Random, field: &[u8]) -> Vec<u8> {
-    let number = std::str::from_utf8(field).ok().and_then(|field| field.parse::<i64>().ok());
-    match number {
-        Some(number) => (number + i64::from(random.pick(&[-1, 1]))).to_string().into_bytes(),
-        None => field.to_vec(),
-    }
+    let step = random.pick(&[-1, 1]);
+    changed_number(field, |number| number.saturating_add(step))
+}
+
+/// A number that is the same one modulo this power of two, further from zero; another field stays.
+pub fn past_a_power(field: &[u8], power: i64) -> Vec<u8> {
+    changed_number(field, |number| number.saturating_add(if number < 0 { -power } else { power }))
 }
 
 /// Lines of nearly the form; now and then words, numbers and ends in any order, or bytes in any order.

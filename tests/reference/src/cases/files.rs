@@ -54,6 +54,20 @@ pub fn set_level_near_least(random: &mut Random, circuit: &mut File, slack: i32)
     }
 }
 
+/// Small constant numbers mostly, and the whole range: both sides of two to the 16, the last ones, numbers of every length, and numbers that are
+/// the same as another modulo two to the 16.
+fn constant(random: &mut Random) -> u32 {
+    let any = random.word() as u32;
+    match random.below(20) {
+        0 => random.pick(&[65_534, 65_535, 65_536, 65_537]),
+        1 => u32::MAX - random.below(3) as u32,
+        2 => any,
+        3 => any >> random.below(32),
+        4 => any << 16 | random.below(4) as u32,
+        _ => random.below(4) as u32,
+    }
+}
+
 /// Small files mostly, and all sizes up to the limit.
 fn size(random: &mut Random, limit: usize) -> usize {
     match random.below(20) {
@@ -151,8 +165,7 @@ impl Maker<'_> {
             }
         }
         if self.random.percent(self.leaning.constants) {
-            let number = if self.random.percent(80) { self.random.below(4) } else { self.random.below(65_536) };
-            return Line::Const { number: number as u16 };
+            return Line::Const { number: constant(self.random) };
         }
         if self.ciphertexts.is_empty() || self.random.percent(self.leaning.inputs) {
             return Line::In;

@@ -333,7 +333,8 @@ pub fn other_circuit(random: &mut Random, circuit: &File) -> File {
             let n = random.below(count);
             let changed = match other.lines()[n] {
                 Line::In => Line::Const { number: 0 },
-                Line::Const { number } => Line::Const { number: number ^ 1 },
+                // Any bit may be the one that differs.
+                Line::Const { number } => Line::Const { number: number ^ 1 << random.pick(&[0, 1, 15, 16, 17, 31]) },
                 Line::Rot { a, by } => Line::Rot { a, by: -by },
                 Line::Add { a, b } => Line::Mul { a, b },
                 Line::Mul { a, b } => Line::Mul { a: b, b: a },

@@ -1,6 +1,6 @@
-//! The limits of document 01, each on both sides, as a fixed list of texts.
+//! The limits of documents 01 and 02, each on both sides, as a fixed list of texts.
 
-use super::damage::FIELDS;
+use super::damage::{past_a_power, BYTES, FIELDS, POWERS};
 use crate::text::{CIRCUIT_LINES, KEPT_LINES, SCHEDULE_LINES};
 
 /// A circuit and a schedule; all services take them.
@@ -52,7 +52,10 @@ const STRUCK_FORMS: [&str; 4] = ["enc 1 20 1", "rs 0 1", "ms 0 1", "us 0 1"];
 /// One value of each kind comes before the line that is tried.
 const BASE: &str = "in/const 5/neg 0/out 0/";
 /// Fields for the tries with two at once.
-const FEW: [&str; 14] = ["x", "", "-1", "-0", "01", "0", "1", "2", "3", "9", "61", "3601", "99999", "99999999999"];
+const FEW: [&str; 15] =
+    ["x", "", "-1", "-0", "01", "0", "1", "2", "3", "9", "61", "3601", "65537", "4294967297", "99999999999"];
+/// Constant numbers that differ in the lower half of their bits, in the upper half, or in one bit.
+const CONSTANTS: [u32; 8] = [0, 7, 65_535, 65_536, 65_543, 2_147_483_647, 2_147_483_655, 4_294_967_295];
 /// What may stand on a line past a limit.
 const LAST: [&str; 12] = ["in/", "in", "in x/", "in /", "inx/", "mul/", "mul x", "us 0 1/", "us", "x", "/", "out 0/"];
 
@@ -71,10 +74,12 @@ pub fn all() -> Vec<Pair> {
     let mut list: Vec<Pair> = WORKED.iter().map(|shown| as_both(shown)).collect();
     headers(&mut list);
     lines(&mut list);
+    constants(&mut list);
     encodings(&mut list);
     line_counts(&mut list);
     kept_counts(&mut list);
     operands_at_the_end(&mut list);
+    longest_files(&mut list);
     long_texts(&mut list);
     list
 }
@@ -85,6 +90,13 @@ fn headers(list: &mut Vec<Pair>) {
         for header in [format!("H {field} 20 2"), format!("H 60 {field} 2"), format!("H 60 20 {field}")] {
             list.push(as_both(&format!("{header}/in/")));
             list.push(as_both(&header));
+        }
+    }
+    for power in POWERS {
+        for number in ["1", "2", "60"].map(|number| past_power(number, power)) {
+            for header in [format!("H {number} 20 2"), format!("H 60 {number} 2"), format!("H 60 20 {number}")] {
+                list.push(as_both(&format!("{header}/in/")));
+            }
         }
     }
     for one in FEW {
@@ -115,6 +127,11 @@ fn lines(list: &mut Vec<Pair>) {
                 push_line(list, &with_field(&fields, place, field));
             }
         }
+        for place in 1..fields.len() {
+            for power in POWERS {
+                push_line(list, &with_field(&fields, place, &past_power(fields[place], power)));
+            }
+        }
         for place in 2..fields.len() {
             for one in FEW {
                 for other in FEW {
@@ -123,6 +140,10 @@ fn lines(list: &mut Vec<Pair>) {
             }
         }
     }
+}
+
+fn past_power(field: &str, power: i64) -> String {
+    past_a_power(field.as_bytes(), power).escape_ascii().to_string()
 }
 
 fn with_field<'a>(fields: &[&'a str], place: usize, field: &'a str) -> Vec<&'a str> {
@@ -141,12 +162,30 @@ fn push_line(list: &mut Vec<Pair>, fields: &[&str]) {
     list.push(Pair { circuit: bytes(&format!("circuit 60 20 2/{BASE}in/{line}/x/")), schedule });
 }
 
+/// Constant numbers that come back through every service, each against each other, and a fault behind one that is too large.
+fn constants(list: &mut Vec<Pair>) {
+    for number in CONSTANTS {
+        let circuit = format!("H 60 20 2/in/const {number}/mul 0 1/add 1 2/neg 3/out 4/");
+        list.push(as_both(&circuit));
+        for other in CONSTANTS {
+            let schedule = format!("H 60 20 2/in/const {other}/enc 1 20 2/mul 0 2/enc 1 40 2/add 4 3/neg 5/out 6/");
+            list.push(Pair { circuit: as_both(&circuit).circuit, schedule: as_both(&schedule).schedule });
+            list.push(as_both(&format!("H 60 20 2/const {number}/const {other}/in/mul 0 2/mul 3 1/")));
+        }
+    }
+    for number in ["4294967295", "4294967296", "99999999999", "100000000000"] {
+        for after in [" 1/", " x/", " /", "/x/", "/neg 9/", "/neg 0/", "x/", ""] {
+            list.push(as_both(&format!("H 60 20 2/in/const {number}{after}")));
+        }
+    }
+}
+
 /// E of `enc` on both sides of L, S at both ends.
 fn encodings(list: &mut Vec<Pair>) {
     for top in [1, 2, 59, 60] {
         for level in [0, 1, top - 1, top, top + 1] {
             for scale in [0, 1, 20, 60, 61, 3599, 3600, 3601] {
-                list.push(as_both(&format!("H 60 20 {top}/in/const 65535/enc 1 {scale} {level}/")));
+                list.push(as_both(&format!("H 60 20 {top}/in/const 4294967295/enc 1 {scale} {level}/")));
                 list.push(as_both(&format!("H 60 20 {top}/const 0/enc 0 {scale} {level}/in/add 1 2/")));
             }
         }
@@ -201,6 +240,27 @@ fn operands_at_the_end(list: &mut Vec<Pair>) {
     }
 }
 
+/// The longest circuit and the longest schedule that can be read, one more byte, and what else may stand there.
+fn longest_files(list: &mut Vec<Pair>) {
+    let lines = |count, last: &str| as_both(&format!("H 60 60 60/{}{last}", "const 4294967295/".repeat(count)));
+    let mut push = |fewer: usize, last: &str| {
+        let circuit = lines(CIRCUIT_LINES - fewer, last).circuit;
+        let kept = lines(KEPT_LINES - fewer, last).schedule;
+        // The circuit that is whole, so that the schedule is read too.
+        let whole = lines(CIRCUIT_LINES, "").circuit;
+        list.push(Pair { circuit, schedule: kept });
+        list.push(Pair { circuit: whole, schedule: lines(SCHEDULE_LINES - fewer, last).schedule });
+    };
+    for last in LAST.into_iter().chain(["const 4294967296/", "const 429496729", "mul 99999999999 99999999999/"]) {
+        push(0, last);
+        push(1, last);
+    }
+    for (n, byte) in BYTES.into_iter().enumerate() {
+        push(1, &format!("const {}/", u32::MAX - 100_000_000 * n as u32));
+        push(0, &char::from(byte).to_string());
+    }
+}
+
 /// Fields, lines and files far longer than any of the form: work ends for these too.
 fn long_texts(list: &mut Vec<Pair>) {
     for part in ["1", "0", "-", " ", "/", "in/", "x", "in ", "const 1/", "\r"] {
@@ -213,6 +273,27 @@ fn long_texts(list: &mut Vec<Pair>) {
             format!("H 60 20 2/in/rot 0 -{long}/in/"),
         ] {
             list.push(as_both(&text));
+        }
+    }
+}
+
+#[cfg(test)]
+mod tests {
+    use super::*;
+
+    /// A run of 200,000 cases has 20,000 of limits.
+    #[test]
+    fn a_run_goes_through_the_whole_list() {
+        assert!(all().len() <= 20_000, "{}", all().len());
+    }
+
+    #[test]
+    fn the_longest_files_are_listed() {
+        let list = all();
+        let count = |length: usize, of: fn(&Pair) -> &Vec<u8>| list.iter().filter(|pair| of(pair).len() == length).count();
+        for (circuit, schedule) in [(4_369, 30_482), (4_370, 30_483)] {
+            assert!(count(circuit, |pair| &pair.circuit) >= 20);
+            assert!(count(schedule, |pair| &pair.schedule) >= 20);
         }
     }
 }
