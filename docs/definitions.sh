@@ -8,7 +8,7 @@ cd "$(dirname "${BASH_SOURCE[0]}")/../crates"
 definitions() {
   for file in fields/specs/{Pieces,Numbers}.antt rows/specs/{Fields,Forms,Lines,Rows}.antt ints/specs/Parts.antt \
     model/specs/{Scales,Words,Files,Machine,Rules,Machines,Plan,Services,Broken,Demands}.antt text/specs/Files.antt \
-    services/specs/{Outcomes,Promises}.antt; do
+    listings/specs/{Listings,Rules,Broken,Conversion}.antt services/specs/{Outcomes,Promises,Listings}.antt risingwriter/specs/GoingOut.antt; do
     printf '%5d  crates/%s\n' "$(grep -cvE '^[[:space:]]*(--.*|(pub |unfoldable )*use .*)?$' "$file")" "$file"
   done
 }

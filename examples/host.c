@@ -1,4 +1,5 @@
-/* Plans document 01's listing, checks the plan, erases it, asks for the least level and shows a refusal. Each reply is tested. */
+/* Plans document 01's listing, checks the plan, erases it, asks for the least level and shows a refusal; then takes a listing in the
+ * rising-level dialect and gives one. Each reply is tested. */
 #include "../include/gowashiru.h"
 #include <stdio.h>
 #include <string.h>
@@ -7,7 +8,11 @@ static const char circuit[] = "circuit\t60\t20\t2\nin\nconst\t7\nmul\t0\t1\nmul\
 /* The same at L = 1, which is too few levels. */
 static const char shallow[] = "circuit\t60\t20\t1\nin\nconst\t7\nmul\t0\t1\nmul\t2\t1\nmul\t3\t3\nout\t4\n";
 
+/* A schedule of it by hand in the rising-level dialect: levels count up from 0, and value 4 is downscaled to the waterline. */
+static const char listing[] = "rising\t60\t20\t2\nin\nconst\t7\nenc\t1\t20\t0\nmul\t0\t2\nmul\t3\t2\nds\t4\nmul\t5\t5\nout\t6\n";
+
 static uint8_t plan[GOWASHIRU_ENOUGH_BYTES], erasure[GOWASHIRU_ENOUGH_BYTES];
+static uint8_t schedule[GOWASHIRU_ENOUGH_BYTES], given[GOWASHIRU_ENOUGH_BYTES];
 
 /* Says so where a call was refused; the host then does without what it asked for. */
 static int refused(const char *call, struct gowashiru_reply reply) {
@@ -48,9 +53,27 @@ static int show_refusal(const uint8_t *text, size_t length) {
     return show_least_level(text, length);
 }
 
+/* A listing becomes a schedule of the same circuit. Given back as a listing it has a `us` and an `rs` line for the `ds` line. */
+static int take_and_give_listing(const uint8_t *text, size_t length) {
+    struct gowashiru_reply taken = gowashiru_from_rising(text, length, schedule, sizeof schedule);
+    if (refused("from rising", taken))
+        return 1;
+    printf("%.*s", (int)taken.length, (const char *)schedule);
+    if (refused("check", gowashiru_check((const uint8_t *)circuit, sizeof circuit - 1, schedule, taken.length)))
+        return 1;
+    printf("the listing's schedule passes\n");
+    struct gowashiru_reply back = gowashiru_to_rising(schedule, taken.length, given, sizeof given);
+    if (refused("to rising", back))
+        return 1;
+    printf("%.*s", (int)back.length, (const char *)given);
+    return 0;
+}
+
 int main(void) {
     const uint8_t *text = (const uint8_t *)circuit;
     if (plan_and_check(text, sizeof circuit - 1) || show_least_level(text, sizeof circuit - 1))
         return 1;
-    return show_refusal((const uint8_t *)shallow, sizeof shallow - 1);
+    if (show_refusal((const uint8_t *)shallow, sizeof shallow - 1))
+        return 1;
+    return take_and_give_listing((const uint8_t *)listing, sizeof listing - 1);
 }

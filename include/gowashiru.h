@@ -1,10 +1,11 @@
 /*
  * gowashiru.h: a proved scale planner for RNS-CKKS circuits.
  *
- * Four calls on bytes. No heap, no global state, reentrant: calls from several threads do not meet. Every input gets one
+ * Six calls on bytes. No heap, no global state, reentrant: calls from several threads do not meet. Every input gets one
  * reply and every call ends; what is promised of the replies stands in docs/PROMISES.md and is proved.
  *
- * A circuit or schedule file is text: one record a line, fields parted by one tab, every line closed by a line feed.
+ * A circuit, a schedule or a listing in the rising-level dialect is text: one record a line, fields parted by one tab, every line closed
+ * by a line feed.
  */
 #ifndef GOWASHIRU_H
 #define GOWASHIRU_H
@@ -17,48 +18,50 @@ extern "C" {
 #endif
 
 /* The version of this header and of the command; the pkg-config file has it too. */
-#define GOWASHIRU_VERSION "0.2.0"
+#define GOWASHIRU_VERSION "0.3.0"
 
-/* A buffer of so many bytes is enough for every plan, which is proved, and for every erasure, which is a circuit and has at
- * most 4,369. */
+/* A buffer of so many bytes is enough for every plan, which is proved, for every erasure, which is a circuit and has at most 4,369,
+ * and for every conversion: a schedule has at most 30,482 and a listing at most 30,480. */
 #define GOWASHIRU_ENOUGH_BYTES 131072
 
 /* The largest number of a constant; the least is 0. A host that keeps its constants under numbers of its own, say a catalogue's,
  * holds one in a uint32_t. A larger one is refused with 11, and one of more than 11 digits with 1. */
 #define GOWASHIRU_MOST_CONSTANT 4294967295u
 
-/* The stack to give a thread. At most 36,328 bytes were measured on x86-64 (check; erase 32,832, plan 31,376, least level
- * 15,832) by tests/host/stack.c, on full files with the longest numbers in them. */
+/* The stack to give a thread. At most 39,688 bytes were measured on x86-64 (from rising; check 39,624, erase 32,848,
+ * plan 31,376, to rising 21,784, least level 15,848) by tests/host/stack.c, on full files with the longest numbers in them. */
 #define GOWASHIRU_STACK_BYTES 131072
 
 /* What the number of a reply says. The numbers do not change. */
 enum gowashiru_number {
     GOWASHIRU_DONE = 0,
-    /* Author of either file. */
+    /* Author of any file. */
     GOWASHIRU_NOT_OF_THE_FORM = 1,       /* text not of the form */
     GOWASHIRU_HEADER_OUT_OF_RANGE = 2,   /* header number outside its range */
-    GOWASHIRU_TOO_MANY_LINES = 3,        /* more lines than allowed: 256 in a circuit, 1,792 in a schedule; in erase also the
-                                          * 257th line whose first field is a circuit word */
+    GOWASHIRU_TOO_MANY_LINES = 3,        /* more lines than allowed: 256 in a circuit, 1,792 in a schedule or a listing; in erase
+                                          * and both conversions also the 257th line whose first field is a circuit word; after
+                                          * the rules, the listing's line with which its schedule has more than 1,792 */
     GOWASHIRU_NO_USABLE_LINE = 4,        /* operand names no usable earlier line */
     GOWASHIRU_WRONG_KIND = 5,            /* operand of the wrong kind */
     GOWASHIRU_NUMBER_OUT_OF_RANGE = 11,  /* other number outside its range */
     /* Author of a circuit. */
     GOWASHIRU_TOO_FEW_LEVELS = 6,        /* no schedule of any length keeps the rules at this header and erases to this circuit
                                           * (least level: at L = 60); at the first line whose best reserve is below zero */
-    /* Maker of a schedule (check). */
+    /* Maker of a schedule or a listing (check, both conversions). */
     GOWASHIRU_LEVELS_DIFFER = 7,         /* levels differ in add or mul */
     GOWASHIRU_SCALES_DIFFER = 8,         /* scales differ in add */
     GOWASHIRU_BELOW_WATERLINE = 10,      /* scale below the waterline */
+    GOWASHIRU_TOO_HIGH_FOR_DS = 14,      /* ds on a scale not below W + F (from rising) */
     GOWASHIRU_ABOVE_MODULUS = 9,         /* scale above the modulus */
-    GOWASHIRU_ANOTHER_CIRCUIT = 12,      /* erases to another circuit; the place is the first circuit line that differs, or one
-                                          * past the shorter file; file 1 */
+    GOWASHIRU_ANOTHER_CIRCUIT = 12,      /* erases to another circuit (check); the place is the first circuit line that differs, or
+                                          * one past the shorter file; file 1 */
     /* Caller. */
     GOWASHIRU_BUFFER_TOO_SHORT = 13      /* buffer too short, after all else; place 0, file 0 */
 };
 
 /*
- * number is one of the above. On success (0) file and place are 0, and length is the number of bytes written (plan, erase),
- * the least level (least level) or 0 (check).
+ * number is one of the above. On success (0) file and place are 0, and length is the number of bytes written (plan, erase,
+ * both conversions), the least level (least level) or 0 (check).
  *
  * Otherwise the call is refused: length is 0 and no lent byte has been changed. place is the text line that caused it,
  * counted from 1, and file the file of that line, counted from 1 in the order of the arguments; both are 0 where no line did.
@@ -81,6 +84,14 @@ struct gowashiru_reply gowashiru_erase(const uint8_t *schedule, size_t schedule_
 /* The least top level at which a circuit has a schedule, as length. The header's own level is only tested for its range.
  * Refuses with 1 to 6, 11. */
 struct gowashiru_reply gowashiru_least_level(const uint8_t *circuit, size_t circuit_len);
+
+/* Makes a schedule of a listing in the rising-level dialect, which has levels that count up from 0 and `ds` lines: writes the schedule to
+ * out. Refuses with 1 to 5, 7 to 11, 13, 14. */
+struct gowashiru_reply gowashiru_from_rising(const uint8_t *listing, size_t listing_len, uint8_t *out, size_t out_len);
+
+/* Makes a listing in the rising-level dialect of a schedule that keeps the rules, without `ds` lines: writes the listing to out. Refuses
+ * with 1 to 5, 7 to 11, 13. */
+struct gowashiru_reply gowashiru_to_rising(const uint8_t *schedule, size_t schedule_len, uint8_t *out, size_t out_len);
 
 /*
  * What is left to the caller: each pointer with its length is memory that may be read during the call, and out memory that

@@ -67,13 +67,13 @@ without() { # TOOL CASE
 }
 
 # A terminal on standard input gets a hint, and is read.
-at_terminal() { # COMMAND
+at_terminal() { # COMMAND KIND FILE
     if ! command -v script >/dev/null; then
         without script "$1 at a terminal"
         return
     fi
-    try 0 script -qec "$1" /dev/null < <(cat "$good"; sleep 1; printf '\004')
-    grep -q 'reading a circuit from the terminal; end it with Ctrl-D' "$room/out" || fail "no hint at a terminal: $tried"
+    try 0 script -qec "$1" /dev/null < <(cat "$3"; sleep 1; printf '\004')
+    grep -q "reading a $2 from the terminal; end it with Ctrl-D" "$room/out" || fail "no hint at a terminal: $tried"
 }
 
 # ---- Every example
@@ -93,6 +93,7 @@ try_circuit() { # NAME
         try 0 "$command" erase "$1.plan"
         prints "$1.circuit"
         try_picture "$1.plan"
+        goes_out_and_back "$1.plan"
     fi
     try 0 "$command" least-level "$1.circuit"
     prints_line "$(cut -f 2 "$1.least")"
@@ -106,6 +107,14 @@ try_picture() { # SCHEDULE
     [ "$(tail -n 1 "$room/out")" = "</svg>" ] || fail "no whole SVG: $tried"
 }
 
+# A schedule that keeps the rules becomes a listing, and the listing that schedule.
+goes_out_and_back() { # SCHEDULE
+    try 0 "$command" to-rising "$1" -o "$room/listing"
+    prints_nothing
+    try 0 "$command" from-rising "$room/listing"
+    prints "$1"
+}
+
 try_schedule() { # NAME
     local word number file place circuit="${1%.*}.circuit"
     read -r word number file place <"$1.check"
@@ -116,18 +125,49 @@ try_schedule() { # NAME
         try 0 "$command" check "$circuit" "$1.schedule"
         prints_line passed
         try_picture "$1.schedule"
+        goes_out_and_back "$1.schedule"
     fi
     try 0 "$command" erase "$1.schedule"
     prints "$1.erasure"
 }
 
+try_listing() { # NAME
+    local word number place
+    read -r word number place <"$1.from_rising"
+    if [ "$word" = refused ]; then
+        refused "$number" "$1.rising" "$place" "$command" from-rising "$1.rising"
+        return
+    fi
+    try 0 "$command" from-rising "$1.rising"
+    prints "$1.from_rising"
+    try 0 "$command" from-rising <"$1.rising"
+    prints "$1.from_rising"
+    try 0 "$command" check "${1%.*}.circuit" "$1.from_rising"
+    prints_line passed
+    try_picture "$1.from_rising"
+}
+
+try_outgoing() { # NAME
+    local word number place
+    read -r word number place <"$1.to_rising"
+    if [ "$word" = refused ]; then
+        refused "$number" "$1.schedule" "$place" "$command" to-rising "$1.schedule"
+        return
+    fi
+    try 0 "$command" to-rising <"$1.schedule"
+    prints "$1.to_rising"
+}
+
 for circuit in examples/*.circuit; do try_circuit "${circuit%.circuit}"; done
 for schedule in examples/*.schedule; do try_schedule "${schedule%.schedule}"; done
+for listing in examples/*.rising; do try_listing "${listing%.rising}"; done
+for listing in examples/*.to_rising; do try_outgoing "${listing%.to_rising}"; done
 
 # ---- Every refusal. A file is given as a format of printf.
 
 c="$room/c.circuit"
 s="$room/s.schedule"
+l="$room/l.listing"
 
 plan_says() { # NUMBER PLACE CIRCUIT TEXT...
     local number=$1 place=$2
@@ -142,6 +182,22 @@ picture_says() { # NUMBER PLACE SCHEDULE TEXT...
     printf "$3" >"$s"
     shift 3
     refused "$number" "$s" "$place" "$command" picture "$s"
+    says "$@"
+}
+
+from_rising_says() { # NUMBER PLACE LISTING TEXT...
+    local number=$1 place=$2
+    printf "$3" >"$l"
+    shift 3
+    refused "$number" "$l" "$place" "$command" from-rising "$l"
+    says "$@"
+}
+
+to_rising_says() { # NUMBER PLACE SCHEDULE TEXT...
+    local number=$1 place=$2
+    printf "$3" >"$s"
+    shift 3
+    refused "$number" "$s" "$place" "$command" to-rising "$s"
     says "$@"
 }
 
@@ -174,7 +230,9 @@ plan_says 1 1 '# a comment\n' 'There are no comments'
 plan_says 1 2 "$h"'\nin\n' 'The line is empty'
 plan_says 1 3 "$h"'in\nmull\t0\t0\n' 'mull is no word of a circuit. Its words are in, const, neg, rot, add, mul, out.'
 plan_says 1 2 "$h"'\x1b[31m\n' '\x1B[31m is no word'
-plan_says 1 3 "$h"'in\nrs\t0\t1\n' '`rs A C` stands in schedules alone'
+plan_says 1 3 "$h"'in\nrs\t0\t1\n' '`rs A C` stands in no circuit'
+plan_says 1 3 "$h"'in\nds\t0\n' '`ds A` stands in no circuit'
+plan_says 1 1 'rising\t60\t20\t2\n' 'This is a listing, and a circuit is wanted here' '`gowashiru from-rising` makes a schedule of it'
 plan_says 1 3 "$h"'in\nmul\t0\t0\t0\n' '`mul A B` has 2 numbers after the word, and here are 3.'
 plan_says 1 3 "$h"'in\nmul\t0\n' 'and here is 1.'
 plan_says 1 3 "$h"'in\nmul\t0\t\t0\n' 'A field is empty'
@@ -269,6 +327,83 @@ check_says 12 "$c" 2 "$h"'const\t4294967295\n' 'schedule\t60\t20\t2\nconst\t6553
 check_says 12 "$c" 2 "$h"'const\t0\n' 'schedule\t60\t20\t2\nconst\t65536\n' ': const 0' "$s:2: erases to: const 65536"
 check_says 11 "$s" 2 "$h"'const\t0\n' 'schedule\t60\t20\t2\nconst\t4294967296\n' 'K = 4294967296'
 
+# ---- Refusals of listings in the rising-level dialect, and of schedules that become one
+
+h='rising\t60\t20\t2\n'
+from_rising_says 1 1 '' 'The file is empty' '`rising F W L`'
+from_rising_says 1 1 'schedule\t60\t20\t2\n' 'This is a schedule, and a listing is wanted here: `gowashiru to-rising` makes one'
+from_rising_says 1 1 'circuit\t60\t20\t2\n' 'This is a circuit, and a listing is wanted here: `gowashiru plan` makes a schedule of it'
+from_rising_says 1 1 'in\n' 'The first line is the header, `rising F W L`'
+from_rising_says 1 1 'rising\t60\t20\n' '`rising F W L` has 3 numbers'
+from_rising_says 1 3 "$h"'in\nsub\t0\n' 'sub is no word of a listing' 'rs, ms, us, ds.'
+from_rising_says 1 3 "$h"'in\nds\t0\t1\n' '`ds A` has 1 number after the word, and here are 2.'
+from_rising_says 1 3 "$h"'in\nds\n' 'and here are 0.'
+from_rising_says 1 3 "$h"'in\nds\t-1\n' '-1 is no number'
+from_rising_says 1 3 "$h"'in\nds 0\n' 'A space stands in the line'
+from_rising_says 1 3 "$h"'in\nds\t0' 'The last line is not closed'
+from_rising_says 1 3 "$h"'in\nrising\t60\t20\t2\n' 'A header stands in the first line alone'
+from_rising_says 1 4 "$h"'in\nconst\t1\nenc\t1\t20\t-1\n' '-1 is no number'
+from_rising_says 2 1 'rising\t61\t20\t0\n' 'header number outside its range' 'F = 61' 'L = 0' 'from 1 to 60'
+from_rising_says 4 2 "$h"'ds\t0\n' 'A = 0' 'none before it'
+from_rising_says 4 4 "$h"'in\nout\t0\nds\t1\n' 'A = 1: line 3 is an `out` line'
+from_rising_says 4 3 "$h"'in\nds\t4294967296\n' 'A = 4294967296: this line is value 1'
+from_rising_says 5 4 "$h"'in\nconst\t1\nds\t1\n' 'A = 1 is a constant, line 3: const 1' '`ds` takes a ciphertext'
+from_rising_says 5 5 "$h"'in\nconst\t1\nenc\t1\t20\t0\nds\t2\n' 'A = 2 is an encoded constant'
+from_rising_says 5 4 "$h"'in\nconst\t1\nmul\t0\t1\n' 'an encoded constant: `enc A S E` encodes'
+from_rising_says 7 4 "$h"'in\nds\t0\nmul\t0\t1\n' 'levels differ' 'Value 0 (line 2) has scale 20 and level 0.' \
+    'Value 1 (line 3) has scale 20 and level 1.' 'Bring both to one level: `ms A C` adds C levels' '`ds A` adds one level'
+from_rising_says 7 6 "$h"'in\nconst\t1\nenc\t1\t20\t0\nms\t0\t1\nmul\t3\t2\n' 'encode it at level E = 1'
+from_rising_says 8 4 "$h"'in\nus\t0\t15\nadd\t0\t1\n' 'Value 1 (line 3) has scale 35 and level 0.' 'Raise value 0 by 15 bits'
+from_rising_says 9 4 "$h"'in\nds\t0\nds\t1\n' 'scale above the modulus' 'Value 1 (line 3) has scale 20 and level 1.' \
+    '`ds` raises it to scale W + F = 80 first' 'F*(L - level) = 60 bits' 'Downscale at a lower level'
+from_rising_says 9 2 'rising\t59\t60\t1\nin\n' 'An input has scale W and level 0'
+from_rising_says 9 3 "$h"'const\t1\nenc\t0\t61\t1\n' 'scale 61 and level 1' 'Encode at a smaller scale S or at a lower level E.'
+from_rising_says 9 3 "$h"'in\nus\t0\t101\n' 'This line would have scale 121 and level 0' 'Raise it by less, or where the level is lower.'
+from_rising_says 9 3 "$h"'in\nms\t0\t2\n' 'This line would have scale 20 and level 2' 'The highest level is L - 1'
+from_rising_says 9 4 'rising\t60\t20\t1\nin\nus\t0\t21\nmul\t0\t1\n' 'scale 61 and level 0' 'F*(L - level) = 60 bits' \
+    'Lower the scale with `rs` or `ds` before, keep to a lower level'
+from_rising_says 10 4 "$h"'in\nus\t0\t59\nrs\t1\t1\n' 'scale below the waterline' 'scale 19 and level 1' '`ds A` brings a scale below W + F to W'
+from_rising_says 10 3 "$h"'const\t1\nenc\t0\t19\t1\n' 'Encode at a scale S of at least W.'
+from_rising_says 10 4 "$h"'in\nus\t0\t100\nrs\t1\t2\n' 'The highest level is L - 1: give up fewer levels'
+from_rising_says 11 3 "$h"'const\t1\nenc\t0\t20\t2\n' 'E = 2' "from 0 to 1, one less than the header's L"
+from_rising_says 11 3 'rising\t60\t20\t1\nconst\t1\nenc\t0\t20\t1\n' 'E = 1' 'from 0 to 0'
+from_rising_says 11 3 "$h"'const\t1\nenc\t0\t20\t4294967296\n' 'E = 4294967296'
+from_rising_says 14 5 "$h"'in\nmul\t0\t0\nus\t1\t40\nds\t2\n' 'scale too high for ds (refusal 14): ds 2' \
+    'Value 2 (line 4) has scale 80 and level 0.' '`ds` takes a scale below W + F = 80: here `rs A 1` is enough, and leaves scale 20.'
+from_rising_says 14 5 "$h"'in\nmul\t0\t0\nus\t1\t41\nds\t2\n' 'leaves scale 21.'
+# One bit less is taken, and so are the first and the last level.
+printf "$h"'in\nus\t0\t59\nds\t1\nconst\t1\nenc\t3\t20\t0\nenc\t3\t20\t1\n' >"$l"
+try 0 "$command" from-rising "$l"
+prints <(printf 'schedule\t60\t20\t2\nin\nus\t0\t59\nus\t1\t1\nrs\t2\t1\nconst\t1\nenc\t4\t20\t2\nenc\t4\t20\t1\n')
+from_rising_says 3 258 "$h$(lines 257 'in\n')" 'this is the 257th'
+from_rising_says 3 1794 "$h"'in\n'"$(lines 1792 'us\t0\t1\n')" 'A listing has at most 1,792 lines'
+# Lines after conversion: 100 and 846 times two are 1,792. A rule that is broken comes before 3.
+inputs="$h$(lines 100 'in\n')"
+downscales="$(lines 846 'ds\t0\n')"
+printf "$inputs$downscales" >"$l"
+try 0 "$command" from-rising "$l"
+[ "$(wc -l <"$room/out")" -eq 1793 ] || fail "not 1,793 lines: $tried"
+from_rising_says 3 948 "$inputs$downscales"'ds\t0\n' 'Each `ds` becomes two lines' 'with this line there are 1794.' 'One `ds` of a value can serve all'
+from_rising_says 3 948 "$inputs$downscales"'neg\t0\n' 'with this line there are 1793.'
+from_rising_says 3 948 "$inputs"'in\n'"$downscales" 'with this line there are 1793.'
+from_rising_says 9 949 "$inputs$downscales"'ds\t0\nus\t0\t101\n' 'This line would have scale 121 and level 0'
+
+h='schedule\t60\t20\t2\n'
+to_rising_says 1 1 'rising\t60\t20\t2\n' 'This is a listing, and a schedule is wanted here: `gowashiru from-rising` makes one'
+to_rising_says 1 3 "$h"'in\nds\t0\n' '`ds A` stands in listings in the rising-level dialect alone' '`rs` by 1'
+to_rising_says 2 1 'schedule\t60\t61\t2\n' 'W = 61'
+to_rising_says 3 258 "$h$(lines 257 'in\n')" 'this is the 257th'
+to_rising_says 3 1794 "$h"'in\n'"$(lines 1792 'us\t0\t1\n')" 'A schedule has at most 1,792 lines'
+to_rising_says 4 2 "$h"'neg\t0\n' 'A = 0'
+to_rising_says 5 3 "$h"'in\nenc\t0\t20\t1\n' '`enc` takes a constant.'
+to_rising_says 7 4 "$h"'in\nms\t0\t1\nmul\t0\t1\n' 'Value 1 (line 3) has scale 20 and level 1.' '`ms A C` takes C levels'
+to_rising_says 8 4 "$h"'in\nus\t0\t15\nadd\t0\t1\n' 'Raise value 0 by 15 bits'
+to_rising_says 9 3 "$h"'in\nus\t0\t101\n' 'This line would have scale 121 and level 2'
+to_rising_says 10 3 "$h"'in\nrs\t0\t1\n' 'This line would have scale -40 and level 1'
+to_rising_says 11 3 "$h"'const\t1\nenc\t0\t20\t0\n' 'E = 0' "from 1 to 2, the header's L"
+h='circuit\t60\t20\t2\n'
+check_says 1 "$s" 1 "$h" 'rising\t60\t20\t2\n' 'This is a listing, and a schedule is wanted here'
+
 # ---- Constant numbers: every service gives them back as they are. A circuit and its plan are formats of printf.
 
 goes_through() { # LEAST_LEVEL CIRCUIT PLAN
@@ -282,6 +417,7 @@ goes_through() { # LEAST_LEVEL CIRCUIT PLAN
     prints "$c"
     try 0 "$command" least-level "$c"
     prints_line "$1"
+    goes_out_and_back "$s"
     try_picture "$s"
 }
 
@@ -304,6 +440,10 @@ printf 'schedule\t60\t60\t60\n'"$constants" >"$s"
 [ "$(wc -c <"$s")" -eq 30482 ] || fail "the longest schedule has not 30,482 bytes"
 refused 12 "$room/longest.circuit" 258 "$command" check "$room/longest.circuit" "$s"
 says 'keeps more lines than a circuit may have'
+# The longest lines that may stand in a listing and keep the rules.
+printf 'schedule\t60\t60\t60\n'"$(lines 256 'const\t4294967295\n')$(lines 1536 'enc\t255\t3000\t50\n')" >"$s"
+goes_out_and_back "$s"
+[ "$(grep -c '^enc	255	3000	10$' "$room/listing")" -eq 1536 ] || fail "the levels are not turned: $tried"
 
 # ---- Reading
 
@@ -316,6 +456,20 @@ try 2 "$command" plan <"$room"
 says 'standard input: Is a directory'
 try 2 "$command" check "$good" "$room/none"
 says "$room/none: No such file"
+listing=examples/wavetables.downscaled
+for service in from-rising to-rising; do
+    try 2 "$command" "$service" "$room/none"
+    says "$room/none: No such file"
+    try 2 "$command" "$service" <"$room"
+    says 'standard input: Is a directory'
+    try 2 "$command" "$service" <&-
+    says 'standard input: it is closed'
+    refused 1 /dev/zero 1 "$command" "$service" /dev/zero
+    refused 1 'standard input' 1 "$command" "$service" < <(yes)
+done
+refused 3 'standard input' 258 "$command" from-rising < <(printf 'rising\t60\t20\t2\n'; yes in)
+refused 3 'standard input' 258 "$command" to-rising < <(printf 'schedule\t60\t20\t2\n'; yes in)
+refused 3 'standard input' 1794 "$command" from-rising < <(printf 'rising\t60\t20\t2\nin\n'; yes 'ds	0')
 try 2 "$command" plan <&-
 says 'standard input: it is closed'
 try 2 "$command" plan /proc/self/mem
@@ -332,7 +486,8 @@ try 0 "$command" plan - <"$good"
 prints examples/listing.plan
 try 0 "$command" plan -- "$good"
 prints examples/listing.plan
-at_terminal "$command plan"
+at_terminal "$command plan" circuit "$good"
+at_terminal "$command from-rising" listing "$listing.rising"
 
 # ---- Writing
 
@@ -368,6 +523,19 @@ cmp -s "$room/own" examples/listing.plan || fail "a failed write changed the fil
 try 2 bash -c "ulimit -f 0; exec '$command' plan $good -o '$room/other' 2>/dev/null"
 [ ! -e "$room/other" ] || fail "a failed write left a file: $tried"
 [ -z "$(find "$room" -name '*.??????')" ] || fail "a file is left behind"
+try 0 "$command" from-rising "$listing.rising" -o "$room/own"
+prints_nothing
+cmp -s "$room/own" "$listing.from_rising" || fail "not the schedule: $tried"
+try 1 "$command" from-rising examples/cubed_sum.late.rising -o "$room/own"
+cmp -s "$room/own" "$listing.from_rising" || fail "a refusal wrote: $tried"
+try 1 "$command" to-rising examples/morph.no_upscale.schedule -o "$room/own"
+cmp -s "$room/own" "$listing.from_rising" || fail "a refusal wrote: $tried"
+try 2 bash -c "ulimit -f 0; exec '$command' to-rising $listing.from_rising -o '$room/own' 2>/dev/null"
+cmp -s "$room/own" "$listing.from_rising" || fail "a failed write changed the file: $tried"
+try 2 bash -c "'$command' from-rising $listing.rising >/dev/full"
+says 'standard output: No space left on device'
+try 2 bash -c "'$command' to-rising $listing.from_rising >&-"
+says 'standard output: it is closed'
 try 2 "$command" plan "$good" -o "$room"
 says 'Is a directory'
 try 2 "$command" plan "$good" -o "$room/none/x"
@@ -393,6 +561,10 @@ try 2 "$command" plan -x "$good"
 says 'no such option: -x' 'gowashiru plan --help'
 try 2 "$command" plan "$good" "$good"
 says 'one file too many'
+try 2 "$command" from-rising "$listing.rising" "$listing.rising"
+says 'one file too many'
+try 2 "$command" to-rising -x "$listing.from_rising"
+says 'no such option: -x' 'gowashiru to-rising --help'
 try 2 "$command" check "$good"
 says 'check needs two files'
 try 2 "$command" check - -
@@ -403,10 +575,10 @@ try 2 "$command" plan -o a -o b "$good"
 says '-o is given twice'
 try 0 "$command" --help
 says_nothing
-for name in plan check erase least-level picture; do
+for name in plan check erase least-level from-rising to-rising picture; do
     grep -q "^  $name " "$room/out" || fail "help leaves out $name"
 done
-for name in plan check erase least-level picture; do
+for name in plan check erase least-level from-rising to-rising picture; do
     try 0 "$command" "$name" --help
     grep -q "^usage: gowashiru $name " "$room/out" || fail "no usage: $tried"
 done
@@ -476,7 +648,7 @@ prints examples/listing.plan
 try 2 ./plan.sh "$good"
 prints_nothing
 says 'usage: plan.sh'
-at_terminal ./plan.sh
+at_terminal ./plan.sh circuit "$good"
 
 # ---- Building, in a copy, with a stand-in for rt that says what rt says
 
@@ -534,6 +706,6 @@ try 2 env PATH="$room/bin:$bin_without_rt" "$copy/plan.sh" <"$good"
 prints_nothing
 says 'ints is not proved' 'plan cannot be built' 'target/build.log says why'
 
-expected=255
+expected=397
 [ "$count" -eq "$expected" ] || fail "$count cases, not $expected. If it is meant, store the number and say why in the commit."
 echo "command: $count cases as they should be"

@@ -30,5 +30,22 @@ for schedule in examples/*.schedule; do
     same "$name.check" target/tests/reply check "${name%.*}.circuit" "$schedule"
     same "$name.erasure" target/tests/reply erase "$schedule"
 done
+# What is converted passes against its own erasure, and against the circuit beside it; without a ds it goes back as it came.
+result=target/tests/conversion
+for listing in examples/*.rising; do
+    name="${listing%.rising}"
+    same "$name.from_rising" target/tests/reply from-rising "$listing"
+    if grep -q '^refused' "$name.from_rising"; then continue; fi
+    target/tests/reply from-rising "$listing" >"$result.schedule"
+    target/tests/reply erase "$result.schedule" >"$result.circuit"
+    same <(echo passed) target/tests/reply check "$result.circuit" "$result.schedule"
+    same <(echo passed) target/tests/reply check "${name%.*}.circuit" "$result.schedule"
+    if ! grep -q '^ds' "$listing"; then same "$listing" target/tests/reply to-rising "$result.schedule"; fi
+done
+for listing in examples/*.to_rising; do
+    schedule="${listing%.to_rising}.schedule"
+    same "$listing" target/tests/reply to-rising "$schedule"
+    if ! grep -q '^refused' "$listing"; then same "$schedule" target/tests/reply from-rising "$listing"; fi
+done
 same examples/host.expected target/tests/host
 echo "examples: $count replies as they should be"

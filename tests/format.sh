@@ -1,10 +1,11 @@
 #!/usr/bin/env bash
-# Runs every example of docs/FORMAT.md and README.md on the archive and compares every byte. A block marked `circuit` or `schedule` is a file, one marked
-# `sh` prints one; `plan`, `check`, `erase` and `least-level` have what is replied on the last circuit, the last schedule or both; a plan is a schedule too.
-# `c` is a program and `prints` its output; a block marked `console` is not run. The pages' pictures are drawn anew. The archive is built before.
+# Runs every example of docs/FORMAT.md and README.md on the archive and compares every byte. A block marked `circuit`, `schedule` or `rising` is a file, one
+# marked `sh` prints one; `plan`, `check`, `erase`, `least-level`, `from-rising` and `to-rising` have what is replied on the last circuit, schedule or listing,
+# a check on the last circuit and schedule; a file that is replied is the last of its kind. `c` is a program and `prints` its output; a block marked `console`
+# is not run. The pages' pictures are drawn anew. The archive is built before.
 set -euo pipefail
 cd "$(dirname "${BASH_SOURCE[0]}")/.."
-replies_stored=47
+replies_stored=58
 folder=target/tests/format
 rm -rf "$folder"
 mkdir -p "$folder"
@@ -31,6 +32,15 @@ same() {
     if ! "$@" >"$folder/reply" || ! cmp "$folder/reply" "$block"; then fail "not the reply"; fi
     count=$((count + 1))
 }
+# A later block may be about this file, which is known by its header; a damaged one is a circuit.
+take() { # FILE
+    case "$(head -n 1 "$1")" in
+    refused*) ;;
+    schedule*) schedule="$1" ;;
+    rising*) listing="$1" ;;
+    *) circuit="$1" ;;
+    esac
+}
 least_level() {
     target/tests/reply least "$1" | sed 's/^level\t//'
 }
@@ -38,16 +48,28 @@ for block in "$folder"/*; do
     case "${block##*.}" in
     circuit) circuit="$block" ;;
     schedule) schedule="$block" ;;
+    rising) listing="$block" ;;
     sh)
         bash "$block" >"$block.printed"
-        if grep -q '^schedule' "$block.printed"; then schedule="$block.printed"; else circuit="$block.printed"; fi
+        take "$block.printed"
         ;;
     plan)
         same target/tests/reply plan "$circuit"
-        if ! grep -q '^refused' "$block"; then schedule="$block"; fi
+        take "$block"
         ;;
     check) same target/tests/reply check "$circuit" "$schedule" ;;
-    erase) same target/tests/reply erase "$schedule" ;;
+    erase)
+        same target/tests/reply erase "$schedule"
+        take "$block"
+        ;;
+    from-rising)
+        same target/tests/reply from-rising "$listing"
+        take "$block"
+        ;;
+    to-rising)
+        same target/tests/reply to-rising "$schedule"
+        take "$block"
+        ;;
     least-level) same least_level "$circuit" ;;
     c)
         gcc -std=c11 -Wall -Wextra -Werror -O2 -Iinclude -x c -o "$folder/program" "$block" -x none target/staticlib/libgowashiru.a
@@ -64,8 +86,8 @@ for picture in "${plans[0]} first_circuit" "examples/listing.plan listing" "exam
     block="docs/${picture#* }.svg"
     same ./gowashiru picture "${picture% *}"
 done
-for number in $(seq 13); do
-    grep -q "^refused	$number	" "$folder"/FORMAT.md:*.{plan,check,erase,least-level,prints} || fail "no example of refusal $number"
+for number in $(seq 14); do
+    grep -q "^refused	$number	" "$folder"/FORMAT.md:*.{plan,check,erase,least-level,from-rising,to-rising,prints} || fail "no example of refusal $number"
 done
 [ "$count" = "$replies_stored" ] || fail "$count replies, and $replies_stored are stored in tests/format.sh"
 echo "format: $count replies of the pages as they should be, each refusal among them"

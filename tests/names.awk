@@ -1,8 +1,8 @@
 # The citations of tests/names.sh. Input: the paths of the repository, the sources, the documents; `kind` says which.
 
 BEGIN {
-    # Words of the two files, of the languages and of commands, which are no names here.
-    split("in const neg rot add mul out enc rs ms us circuit schedule refused requires ensures break rt extern read write memset memcpy printf i32 downscale", list, " ")
+    # Words of the files, of the languages and of commands, which are no names here.
+    split("in const neg rot add mul out enc rs ms us ds circuit schedule rising refused requires ensures break rt extern read write memset memcpy printf i32 downscale", list, " ")
     for (i in list) words[list[i]] = 1
     split("old: new: file: ?", list, " ")
     for (i in list) words[list[i]] = 1

@@ -1,4 +1,5 @@
-/* Prints what a service replies on files: reply plan FILE, reply least FILE, reply erase FILE, reply check CIRCUIT SCHEDULE. */
+/* Prints what a service replies on files: reply plan FILE, reply least FILE, reply erase FILE, reply from-rising FILE,
+ * reply to-rising FILE, reply check CIRCUIT SCHEDULE. */
 #include "../include/gowashiru.h"
 #include <stdio.h>
 #include <string.h>
@@ -18,7 +19,7 @@ static size_t load(const char *name, uint8_t *bytes, size_t room) {
 
 int main(int count, char **words) {
     if (count < 3) {
-        fprintf(stderr, "usage: reply plan|least|erase FILE, reply check CIRCUIT SCHEDULE\n");
+        fprintf(stderr, "usage: reply plan|least|erase|from-rising|to-rising FILE, reply check CIRCUIT SCHEDULE\n");
         return 2;
     }
     size_t length = load(words[2], first, sizeof first);
@@ -27,6 +28,10 @@ int main(int count, char **words) {
         reply = gowashiru_plan(first, length, out, sizeof out);
     else if (!strcmp(words[1], "erase"))
         reply = gowashiru_erase(first, length, out, sizeof out);
+    else if (!strcmp(words[1], "from-rising"))
+        reply = gowashiru_from_rising(first, length, out, sizeof out);
+    else if (!strcmp(words[1], "to-rising"))
+        reply = gowashiru_to_rising(first, length, out, sizeof out);
     else if (!strcmp(words[1], "least"))
         reply = gowashiru_least_level(first, length);
     else if (!strcmp(words[1], "check") && count == 4)

@@ -1,5 +1,6 @@
 #!/usr/bin/env bash
-# Holds the scales and levels that the command works out to the Rust version's, on the examples and on generated schedules.
+# Holds the scales and levels that the command works out to the Rust version's, on the examples and on generated schedules; those of listings to those of
+# the schedules that they become.
 # The archive is built before, and the Rust version by tests/compare.sh or here.
 set -euo pipefail
 cd "$(dirname "${BASH_SOURCE[0]}")/.."
@@ -27,4 +28,27 @@ for outcome in passed 'refused 7' 'refused 8' 'refused 9' 'refused 10'; do
     }
     counts="${counts-}, $found $outcome"
 done
+# Each schedule that keeps the rules as a listing, once as it goes out and once with a downscale of its last line, where that is legal.
+gcc -std=c11 -Wall -Wextra -Werror -O2 -o target/tests/reply tests/reply.c target/staticlib/libgowashiru.a
+for schedule in "${schedules[@]}"; do
+    listing="$made/$(basename "$schedule").listing"
+    target/tests/reply to-rising "$schedule" >"$listing"
+    if grep -q '^refused' "$listing"; then continue; fi
+    listings+=("$listing")
+    { cat "$listing" && printf 'ds\t%d\n' "$(($(wc -l <"$listing") - 2))"; } >"$listing.ds"
+    if ! target/tests/reply from-rising "$listing.ds" | grep -q '^refused'; then listings+=("$listing.ds"); fi
+done
+for listing in examples/*.rising; do
+    if ! grep -q '^refused' "${listing%.rising}.from_rising"; then listings+=("$listing"); fi
+done
+target/tests/standings --listings "${listings[@]}" >"$made/same" || {
+    tail -n 1 "$made/same" >&2
+    exit 1
+}
+downscales="$(grep -c '^same ds' "$made/same")"
+[ "$downscales" -ge 20 ] || {
+    echo "standings: only $downscales downscales" >&2
+    exit 1
+}
+echo "standings: $(wc -l <"$made/same") lines of ${#listings[@]} listings as in their schedules, $downscales of them downscales"
 echo "standings: $(grep -c '^[0-9]' "$made/expected") lines of ${#schedules[@]} schedules as in the Rust version${counts/,/:}"

@@ -1,5 +1,5 @@
 /*
- * The four services in plain C, after documents 01 and 02 and the Rust version: a yardstick for the time of the proved archive, and no
+ * The services in plain C, after documents 01 and 02 and the Rust version: a yardstick for the time of the proved archive, and no
  * independent witness. One pass over the bytes, nothing cleared, no heap. Its replies are compared with the archive's wherever that is
  * tested or timed; nothing is proved of it.
  */
@@ -13,6 +13,8 @@ reply yardstick_plan(const uint8_t *circuit, size_t circuit_len, uint8_t *out, s
 reply yardstick_check(const uint8_t *circuit, size_t circuit_len, const uint8_t *schedule, size_t schedule_len);
 reply yardstick_erase(const uint8_t *schedule, size_t schedule_len, uint8_t *out, size_t out_len);
 reply yardstick_least_level(const uint8_t *circuit, size_t circuit_len);
+reply yardstick_from_rising(const uint8_t *listing, size_t listing_len, uint8_t *out, size_t out_len);
+reply yardstick_to_rising(const uint8_t *schedule, size_t schedule_len, uint8_t *out, size_t out_len);
 
 enum {
     CIRCUIT_LINES = 256,
@@ -25,9 +27,10 @@ enum {
 };
 
 /* The words of a circuit come first: erasing keeps their lines. */
-enum word { IN, CONST, NEG, ROT, ADD, MUL, OUT, ENC, RS, MS, US, NO_WORD };
+enum word { IN, CONST, NEG, ROT, ADD, MUL, OUT, ENC, RS, MS, US, DS, NO_WORD };
 enum kind { CIPHERTEXT, CONSTANT, ENCODED, UNUSABLE };
-enum reading { CIRCUIT, SCHEDULE, SCHEDULE_TO_ERASE };
+/* A schedule that is turned into a listing is read as one to erase. In a listing's table the level of an enc is the remaining one. */
+enum reading { CIRCUIT, SCHEDULE, SCHEDULE_TO_ERASE, LISTING };
 
 /* A line: operands and numbers in the order written, 0 where there is none. A rotation is held in two's complement, a constant number in two
  * halves, the lower first: so every byte of a record counts, and two records are compared as bytes. */
@@ -113,6 +116,7 @@ static inline enum word read_word(const uint8_t **place) {
     case 'o': return read_spelling(place, "out") ? OUT : NO_WORD;
     case 'e': return read_spelling(place, "enc") ? ENC : NO_WORD;
     case 'u': return read_spelling(place, "us") ? US : NO_WORD;
+    case 'd': return read_spelling(place, "ds") ? DS : NO_WORD;
     case 'r': return read_spelling(place, "rs") ? RS : read_spelling(place, "rot") ? ROT : NO_WORD;
     case 'm': return read_spelling(place, "ms") ? MS : read_spelling(place, "mul") ? MUL : NO_WORD;
     default: return NO_WORD;
@@ -153,7 +157,7 @@ static inline uint32_t read_constant(const uint8_t **place, struct line *line) {
     return number > UINT32_MAX ? 11 : 0;
 }
 
-/* neg, out */
+/* neg, out, ds */
 static inline uint32_t read_one(const uint8_t **place, enum word word, const struct file *file, struct line *line) {
     uint64_t a;
     if (!read_number(place, &a) || !read_end(place))
@@ -180,10 +184,12 @@ static inline uint32_t read_pair(const uint8_t **place, enum word word, enum kin
     return pair_fault(file, a, b, constant);
 }
 
-static inline uint32_t read_encoded(const uint8_t **place, const struct file *file, struct line *line) {
+FOR_EACH_KIND uint32_t read_encoded(const uint8_t **place, enum reading reading, const struct file *file, struct line *line) {
     uint64_t a, scale, level;
     if (!read_number(place, &a) || !read_number(place, &scale) || !read_number(place, &level) || !read_end(place))
         return 1;
+    if (reading == LISTING)
+        level = (uint64_t)file->header.top_level - level;
     *line = (struct line){ENC, ENCODED, (uint16_t)a, (uint16_t)scale, (uint16_t)level};
     bool inside = scale - 1 < 3600 && level - 1 < (uint64_t)file->header.top_level;
     return inside ? operand_fault(file, a, CONSTANT) : 11;
@@ -209,10 +215,11 @@ FOR_EACH_KIND uint32_t read_line(const uint8_t **place, enum word word, enum rea
     case ROT: return read_turn(place, file, line);
     case ADD:
     case MUL: return read_pair(place, word, reading == CIRCUIT ? CONSTANT : ENCODED, file, line);
-    case ENC: return reading == CIRCUIT ? 1 : read_encoded(place, file, line);
+    case ENC: return reading == CIRCUIT ? 1 : read_encoded(place, reading, file, line);
     case RS:
     case MS: return reading == CIRCUIT ? 1 : read_conversion(place, word, 60, file, line);
     case US: return reading == CIRCUIT ? 1 : read_conversion(place, word, 3600, file, line);
+    case DS: return reading == LISTING ? read_one(place, word, file, line) : 1;
     default: return 1;
     }
 }
@@ -220,7 +227,8 @@ FOR_EACH_KIND uint32_t read_line(const uint8_t **place, enum word word, enum rea
 /* 0, 1 or 2. */
 static inline uint32_t read_header(const uint8_t **place, enum reading reading, struct header *header) {
     uint64_t factor, waterline, top_level;
-    if (!read_spelling(place, reading == CIRCUIT ? "circuit" : "schedule") || !read_number(place, &factor))
+    const char *word = reading == CIRCUIT ? "circuit" : reading == LISTING ? "rising" : "schedule";
+    if (!read_spelling(place, word) || !read_number(place, &factor))
         return 1;
     if (!read_number(place, &waterline) || !read_number(place, &top_level) || !read_end(place))
         return 1;
@@ -253,13 +261,14 @@ static inline const uint8_t *end_of_closed(const uint8_t *bytes, size_t length) 
 /* Reads a whole file into a table: "Files are read top to bottom; .. per line 3, 1, 2 or 11, 4, 5". */
 FOR_EACH_KIND reply read_file(const uint8_t *bytes, size_t length, enum reading reading, uint32_t number, struct file *file) {
     const uint32_t limit = reading == CIRCUIT ? CIRCUIT_LINES : SCHEDULE_LINES;
+    const bool limits_kept = reading == SCHEDULE_TO_ERASE || reading == LISTING;
     const uint8_t *at = bytes, *end = bytes + length, *closed = end_of_closed(bytes, length);
     uint32_t kept = 0, fault = closed == bytes ? 1 : read_header(&at, reading, &file->header);
     if (fault)
         return refused(fault, number, 1);
     file->count = 0;
     while (at < closed) {
-        if (file->count == limit || (reading == SCHEDULE_TO_ERASE && kept == KEPT_LINES && begins_kept(at)))
+        if (file->count == limit || (limits_kept && kept == KEPT_LINES && begins_kept(at)))
             return refused(3, number, file->count + 2);
         enum word word = read_word(&at);
         fault = read_line(&at, word, reading, file);
@@ -270,7 +279,7 @@ FOR_EACH_KIND reply read_file(const uint8_t *bytes, size_t length, enum reading 
     }
     if (at == end)
         return success(0);
-    bool many = file->count == limit || (reading == SCHEDULE_TO_ERASE && kept == KEPT_LINES && begins_kept_unclosed(at, end));
+    bool many = file->count == limit || (limits_kept && kept == KEPT_LINES && begins_kept_unclosed(at, end));
     return refused(many ? 3 : 1, number, file->count + 2);
 }
 
@@ -604,21 +613,24 @@ static inline uint32_t apply_rule(const struct header *header, const struct line
     }
 }
 
-/* "per line 7, 8, 10, 9", or success. */
-static inline reply first_broken(const struct file *schedule) {
+/* "per line 7, 8, 10, 9", or 0. */
+static inline uint32_t rule_fault(const struct header *header, const struct line *line, const struct scaled *held, struct scaled *value) {
+    uint32_t fault = apply_rule(header, line, held, value);
+    if (fault)
+        return fault;
+    return value->scale < header->waterline ? 10 : value->scale > header->factor * value->level ? 9 : 0;
+}
+
+static inline reply first_broken(const struct file *schedule, uint32_t number) {
     const struct header header = schedule->header;
     struct scaled held[SCHEDULE_LINES];
     for (uint32_t n = 0; n < schedule->count; n++) {
         if (schedule->lines[n].word == CONST)
             continue;
         struct scaled value;
-        uint32_t fault = apply_rule(&header, &schedule->lines[n], held, &value);
+        uint32_t fault = rule_fault(&header, &schedule->lines[n], held, &value);
         if (fault)
-            return refused(fault, 2, n + 2);
-        if (value.scale < header.waterline)
-            return refused(10, 2, n + 2);
-        if (value.scale > header.factor * value.level)
-            return refused(9, 2, n + 2);
+            return refused(fault, number, n + 2);
         held[n] = value;
     }
     return success(0);
@@ -633,5 +645,81 @@ reply yardstick_check(const uint8_t *circuit, size_t circuit_len, const uint8_t 
     if (read.number)
         return read;
     uint32_t differs = first_difference(&first, &second);
-    return differs ? refused(12, 1, differs) : first_broken(&second);
+    return differs ? refused(12, 1, differs) : first_broken(&second, 2);
+}
+
+/* The rising-level dialect: document 02, Job 2. */
+
+/* Any line of a schedule with these operands; `level` is what an enc has for its level. */
+static inline uint8_t *put_line(uint8_t *at, const struct line *line, uint32_t a, uint32_t b, uint32_t level) {
+    if (is_circuit_word(line->word))
+        return put_kept(at, line, a, b);
+    at = put_word(at, line->word);
+    at = put_number(at, a);
+    at = put_number(at, line->second);
+    if (line->word == ENC)
+        at = put_number(at, level);
+    *at++ = '\n';
+    return at;
+}
+
+reply yardstick_to_rising(const uint8_t *bytes, size_t bytes_len, uint8_t *out, size_t out_len) {
+    struct line lines[SCHEDULE_LINES];
+    uint8_t text[TEXT_BYTES];
+    struct file schedule = {.lines = lines};
+    reply read = read_file(bytes, bytes_len, SCHEDULE_TO_ERASE, 1, &schedule);
+    if (!read.number)
+        read = first_broken(&schedule, 1);
+    if (read.number)
+        return read;
+    uint8_t *at = put_header(text, "rising", &schedule.header);
+    for (uint32_t n = 0; n < schedule.count; n++)
+        at = put_line(at, &lines[n], lines[n].first, lines[n].second, (uint32_t)schedule.header.top_level - lines[n].third);
+    return lend(text, at, out, out_len);
+}
+
+/* "per line 7, 8, 10, 14, 9", or 0. A ds is legal where its two lines are: its rs lands on W, within the modulus. */
+static inline uint32_t listing_fault(const struct header *header, const struct line *line, const struct scaled *held, struct scaled *value) {
+    if (line->word != DS)
+        return rule_fault(header, line, held, value);
+    const struct scaled *a = &held[line->first];
+    int32_t raised = header->waterline + header->factor;
+    *value = (struct scaled){header->waterline, a->level - 1};
+    return a->scale >= raised ? 14 : raised > header->factor * a->level ? 9 : 0;
+}
+
+/* The lines of a schedule for a line of a listing; what names it later names the last of them. `numbers` has the schedule's numbers. */
+static inline uint32_t put_converted(struct draft *draft, const struct header *header, const struct line *line, const struct scaled *held,
+                                     const uint16_t *numbers) {
+    uint32_t a = line->word >= NEG ? numbers[line->first] : 0;
+    uint32_t b = line->word == ADD || line->word == MUL ? numbers[line->second] : 0;
+    if (line->word == DS)
+        return put_struck(draft, RS, put_struck(draft, US, a, header->waterline + header->factor - held[line->first].scale), 1);
+    draft->at = put_line(draft->at, line, a, b, line->third);
+    return draft->next++;
+}
+
+/* One walk holds the lines to the rules and writes them as long as they fit: 3 comes after every rule. */
+reply yardstick_from_rising(const uint8_t *bytes, size_t bytes_len, uint8_t *out, size_t out_len) {
+    struct line lines[SCHEDULE_LINES];
+    struct scaled held[SCHEDULE_LINES];
+    uint16_t numbers[SCHEDULE_LINES];
+    uint8_t text[TEXT_BYTES];
+    struct file listing = {.lines = lines};
+    reply read = read_file(bytes, bytes_len, LISTING, 1, &listing);
+    if (read.number)
+        return read;
+    struct draft draft = {put_header(text, "schedule", &listing.header), 0};
+    uint32_t too_many = 0;
+    for (uint32_t n = 0; n < listing.count; n++) {
+        const struct line *line = &lines[n];
+        uint32_t fault = line->word == CONST ? 0 : listing_fault(&listing.header, line, held, &held[n]);
+        if (fault)
+            return refused(fault, 1, n + 2);
+        if (!too_many && draft.next + (line->word == DS) >= SCHEDULE_LINES)
+            too_many = n + 2;
+        if (!too_many)
+            numbers[n] = (uint16_t)put_converted(&draft, &listing.header, line, held, numbers);
+    }
+    return too_many ? refused(3, 1, too_many) : lend(text, draft.at, out, out_len);
 }

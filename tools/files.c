@@ -10,6 +10,9 @@
 #include <sys/stat.h>
 #include <unistd.h>
 
+const char *const kind_names[] = {[CIRCUIT] = "circuit", [SCHEDULE] = "schedule", [LISTING] = "listing"};
+const char *const header_words[] = {[CIRCUIT] = "circuit", [SCHEDULE] = "schedule", [LISTING] = "rising"};
+
 static bool was_closed[3];
 
 bool hold_standard_files(void) {
@@ -55,8 +58,7 @@ bool read_file(struct file *file, const char *name) {
         if (was_closed[STDIN_FILENO])
             return fail(file->name, "it is closed");
         if (isatty(STDIN_FILENO))
-            fprintf(stderr, "gowashiru: reading a %s from the terminal; end it with Ctrl-D\n",
-                    file->is_schedule ? "schedule" : "circuit");
+            fprintf(stderr, "gowashiru: reading a %s from the terminal; end it with Ctrl-D\n", kind_names[file->kind]);
         return read_all(file, STDIN_FILENO);
     }
     int from = open(name, O_RDONLY | O_CLOEXEC);

@@ -6,13 +6,19 @@
 #include <stddef.h>
 #include <stdint.h>
 
-/* A good circuit has at most 4,369 bytes and a good schedule at most 30,482, and no line of either form more than 45. So a longer
- * input is refused by what is read here, at the same line and for the same reason, and an endless input ends. */
+/* A good circuit has at most 4,369 bytes, a good schedule at most 30,482 and a good listing at most 30,480, and no line of any form more
+ * than 45. So a longer input is refused by what is read here, at the same line and for the same reason, and an endless input ends. */
 enum { READ_BYTES = 65536 };
+
+enum file_kind { CIRCUIT, SCHEDULE, LISTING };
+
+/* As a kind is called, and the first word of its header. */
+extern const char *const kind_names[];
+extern const char *const header_words[];
 
 struct file {
     const char *name; /* as it is shown */
-    bool is_schedule;
+    enum file_kind kind;
     bool ended; /* the end of the input was reached, so what is read is all of it */
     size_t length;
     uint8_t bytes[READ_BYTES];

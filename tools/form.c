@@ -9,8 +9,24 @@
 /* No line of the form is longer: `schedule` and three numbers of 11 bytes. */
 enum { LINE_BYTES = 44 };
 
-static const char *header_form(const struct file *file) {
-    return file->is_schedule ? "schedule F W L" : "circuit F W L";
+static const char *const header_forms[] = {[CIRCUIT] = "circuit F W L", [SCHEDULE] = "schedule F W L", [LISTING] = "rising F W L"};
+
+/* What makes the wanted kind of file, which comes first here, of another. */
+static const char *const ways[][3] = {
+    [CIRCUIT] = {[SCHEDULE] = "`gowashiru erase` makes one of it. Of two files the circuit comes first.",
+                 [LISTING] = "`gowashiru from-rising` makes a schedule of it, and `gowashiru erase` a circuit of that."},
+    [SCHEDULE] = {[CIRCUIT] = "`gowashiru plan` makes one of it. Of two files the circuit comes first.",
+                  [LISTING] = "`gowashiru from-rising` makes one of it."},
+    [LISTING] = {[CIRCUIT] = "`gowashiru plan` makes a schedule of it, and `gowashiru to-rising` a listing of that.",
+                 [SCHEDULE] = "`gowashiru to-rising` makes one of it."},
+};
+
+/* The kind of file whose header begins with this word. */
+static bool kind_of_header(struct piece word, enum file_kind *kind) {
+    for (*kind = CIRCUIT; *kind <= LISTING; ++*kind)
+        if (is_text(word, header_words[*kind]))
+            return true;
+    return false;
 }
 
 static bool begins_with(const struct file *file, const char *bytes, size_t length) {
@@ -104,24 +120,22 @@ static void tell_fields(struct piece line, const char *form, size_t count, bool 
 }
 
 static void tell_header(const struct file *file, struct piece line) {
-    struct piece word = field_at(line, 0);
-    const char *wanted = file->is_schedule ? "schedule" : "circuit", *other = file->is_schedule ? "circuit" : "schedule";
-    if (is_text(word, wanted))
-        tell_fields(line, header_form(file), 3, false);
-    else if (is_text(word, other))
-        fprintf(stderr, "  This is a %s, and a %s is wanted here: `gowashiru %s` makes one of it. Of two files the circuit comes first.\n", other, wanted,
-                file->is_schedule ? "plan" : "erase");
+    enum file_kind kind;
+    if (!kind_of_header(field_at(line, 0), &kind))
+        fprintf(stderr, "  The first line is the header, `%s`: the rescale factor, the waterline and the top level.\n", header_forms[file->kind]);
+    else if (kind == file->kind)
+        tell_fields(line, header_forms[kind], 3, false);
     else
-        fprintf(stderr, "  The first line is the header, `%s`: the rescale factor, the waterline and the top level.\n", header_form(file));
+        fprintf(stderr, "  This is a %s, and a %s is wanted here: %s\n", kind_names[kind], kind_names[file->kind], ways[file->kind][kind]);
 }
 
 static void tell_words(const struct file *file, struct piece field) {
     fputs("  ", stderr);
     show_bytes(field);
-    fprintf(stderr, " is no word of a %s. Its words are", file->is_schedule ? "schedule" : "circuit");
+    fprintf(stderr, " is no word of a %s. Its words are", kind_names[file->kind]);
     const char *mark = " ";
     for (size_t i = 0; i < word_count; i++) {
-        if (!file->is_schedule && !known_words[i].is_kept)
+        if (known_words[i].first > file->kind)
             continue;
         fprintf(stderr, "%s%s", mark, known_words[i].name);
         mark = ", ";
@@ -130,15 +144,19 @@ static void tell_words(const struct file *file, struct piece field) {
 }
 
 static void tell_record(const struct file *file, struct piece line) {
+    enum file_kind kind;
     const struct word *word = word_of(field_at(line, 0));
     if (line.length == 0)
         fputs("  The line is empty: take it out.\n", stderr);
-    else if (is_text(field_at(line, 0), "circuit") || is_text(field_at(line, 0), "schedule"))
-        fputs("  A header stands in the first line alone: one file holds one circuit or schedule.\n", stderr);
+    else if (kind_of_header(field_at(line, 0), &kind))
+        fputs("  A header stands in the first line alone: one file holds one circuit, schedule or listing.\n", stderr);
     else if (word == NULL)
         tell_words(file, field_at(line, 0));
-    else if (!file->is_schedule && !word->is_kept)
-        fprintf(stderr, "  `%s` stands in schedules alone. A circuit has no scales and levels: planning puts them in.\n", word->form);
+    else if (file->kind == CIRCUIT && !is_kept(word))
+        fprintf(stderr, "  `%s` stands in no circuit, which has no scales and levels: planning puts them in.\n", word->form);
+    else if (word->first > file->kind)
+        fprintf(stderr, "  `%s` stands in listings in the rising-level dialect alone. In a schedule it is `us`, up to W + F, and `rs` by 1.\n",
+                word->form);
     else
         tell_fields(line, word->form, word->count, word->count == 2 && word->fields[1] == ROTATION);
     if (word != NULL && word->count == 1 && word->fields[0] == CONSTANT && field_count(line) == 2)
@@ -157,7 +175,7 @@ static bool tell_bytes(const struct file *file, struct piece line) {
 void tell_form(const struct file *file, uint32_t place) {
     struct piece line = line_at(file, place);
     if (!line.is_there)
-        fprintf(stderr, "  The file is empty. Its first line is the header, `%s`.\n", header_form(file));
+        fprintf(stderr, "  The file is empty. Its first line is the header, `%s`.\n", header_forms[file->kind]);
     else if (line.length > 0 && line.bytes[0] == '#')
         fputs("  There are no comments: take the line out.\n", stderr);
     else if (tell_mark(file, place) || tell_bytes(file, line))

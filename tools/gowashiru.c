@@ -29,6 +29,13 @@ static const struct command commands[] = {
     {"least-level", 0, 1, run_least_level,
      "usage: gowashiru least-level [-o FILE] [CIRCUIT]\n\n"
      "Prints the least top level L at which the circuit has a schedule. The header's own L is only tested for its range.\n"},
+    {"from-rising", 0, 1, run_from_rising,
+     "usage: gowashiru from-rising [-o FILE] [LISTING]\n\n"
+     "Prints the schedule of a listing in the rising-level dialect, where levels count up from 0 and `ds A` brings a\n"
+     "ciphertext to scale W, one level on. Each `ds` becomes a `us` and an `rs`. The listing has to keep the rules.\n"},
+    {"to-rising", 0, 1, run_to_rising,
+     "usage: gowashiru to-rising [-o FILE] [SCHEDULE]\n\n"
+     "Prints a schedule that keeps the rules as a listing in the rising-level dialect. Nothing becomes a `ds`.\n"},
     {"picture", 0, 1, run_picture,
      "usage: gowashiru picture [-o FILE] [SCHEDULE]\n\n"
      "Prints an SVG of a schedule that keeps the rules: the scale and the modulus of each line.\n"},
@@ -41,6 +48,8 @@ static const char help[] =
     "  check CIRCUIT SCHEDULE    print `passed` if the schedule keeps the rules and erases to the circuit\n"
     "  erase [SCHEDULE]          print the circuit of a schedule\n"
     "  least-level [CIRCUIT]     print the least top level L at which the circuit has a schedule\n"
+    "  from-rising [LISTING]     print the schedule of a listing in the rising-level dialect\n"
+    "  to-rising [SCHEDULE]      print a schedule as a listing in the rising-level dialect\n"
     "  picture [SCHEDULE]        print an SVG of a schedule's scales and levels\n\n"
     "  -o FILE       write the result to FILE, whole or not at all, and not to standard output\n"
     "  --help        print this, or after a command what it does\n"

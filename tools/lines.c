@@ -3,19 +3,24 @@
 #include <string.h>
 
 const struct word known_words[] = {
-    {"in", "in", true, 0, {0}},
-    {"const", "const K", true, 1, {CONSTANT}},
-    {"neg", "neg A", true, 1, {OPERAND}},
-    {"rot", "rot A T", true, 2, {OPERAND, ROTATION}},
-    {"add", "add A B", true, 2, {OPERAND, OPERAND}},
-    {"mul", "mul A B", true, 2, {OPERAND, OPERAND}},
-    {"out", "out A", true, 1, {OPERAND}},
-    {"enc", "enc A S E", false, 3, {OPERAND, SCALE, LEVEL}},
-    {"rs", "rs A C", false, 2, {OPERAND, COUNT}},
-    {"ms", "ms A C", false, 2, {OPERAND, COUNT}},
-    {"us", "us A B", false, 2, {OPERAND, SCALE}},
+    {"in", "in", CIRCUIT, 0, {0}},
+    {"const", "const K", CIRCUIT, 1, {CONSTANT}},
+    {"neg", "neg A", CIRCUIT, 1, {OPERAND}},
+    {"rot", "rot A T", CIRCUIT, 2, {OPERAND, ROTATION}},
+    {"add", "add A B", CIRCUIT, 2, {OPERAND, OPERAND}},
+    {"mul", "mul A B", CIRCUIT, 2, {OPERAND, OPERAND}},
+    {"out", "out A", CIRCUIT, 1, {OPERAND}},
+    {"enc", "enc A S E", SCHEDULE, 3, {OPERAND, SCALE, LEVEL}},
+    {"rs", "rs A C", SCHEDULE, 2, {OPERAND, COUNT}},
+    {"ms", "ms A C", SCHEDULE, 2, {OPERAND, COUNT}},
+    {"us", "us A B", SCHEDULE, 2, {OPERAND, SCALE}},
+    {"ds", "ds A", LISTING, 1, {OPERAND}},
 };
 const size_t word_count = sizeof known_words / sizeof known_words[0];
+
+bool is_kept(const struct word *word) {
+    return word->first == CIRCUIT;
+}
 
 /* The bytes up to the first one that is `end`, or all. */
 static struct piece cut(const uint8_t *bytes, size_t length, uint8_t end) {
@@ -103,7 +108,12 @@ bool record_of(struct piece line, struct record *record) {
 
 bool header_of(const struct file *file, struct header *header) {
     struct piece line = line_at(file, 1);
+    header->is_rising = file->kind == LISTING;
     return line.is_there && number_of(field_at(line, 1), false, &header->factor) &&
            number_of(field_at(line, 2), false, &header->waterline) &&
            number_of(field_at(line, 3), false, &header->top_level);
+}
+
+int64_t turned_level(const struct header *header, int64_t level) {
+    return header->is_rising ? header->top_level - level : level;
 }

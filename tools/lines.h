@@ -18,8 +18,8 @@ enum { FIELD_BYTES = 11, MOST_FIELDS = 3, SCHEDULE_LINES = 1792, CIRCUIT_LINES =
 
 struct word {
     const char *name;
-    const char *form; /* the word with its fields by name */
-    bool is_kept;     /* a word of circuits, kept by erasing */
+    const char *form;     /* the word with its fields by name */
+    enum file_kind first; /* the first kind of file that has it; those after it have it too */
     size_t count;
     enum field fields[MOST_FIELDS];
 };
@@ -32,10 +32,14 @@ struct record {
 
 struct header {
     int64_t factor, waterline, top_level;
+    bool is_rising; /* of a listing, where levels count up from 0 */
 };
 
 extern const struct word known_words[];
 extern const size_t word_count;
+
+/* A word of circuits: erasing keeps its line. */
+bool is_kept(const struct word *word);
 
 /* The line at *at, which is moved past it. */
 struct piece next_line(const struct file *file, size_t *at);
@@ -49,14 +53,17 @@ struct piece field_at(struct piece line, size_t number);
 bool is_text(struct piece piece, const char *text);
 bool has_byte(struct piece piece, uint8_t byte);
 
-/* NULL where it is no word of either file. */
+/* NULL where it is no word of any file. */
 const struct word *word_of(struct piece field);
 
-/* A number as both files write it: at most FIELD_BYTES, no plus, no leading zero, a minus only where it may stand and not before 0. */
+/* A number as all files write it: at most FIELD_BYTES, no plus, no leading zero, a minus only where it may stand and not before 0. */
 bool number_of(struct piece field, bool may_be_negative, int64_t *number);
 
 /* False where the line is not of the form. */
 bool record_of(struct piece line, struct record *record);
 bool header_of(const struct file *file, struct header *header);
+
+/* The remaining level of a written one, and the written level of a remaining one. */
+int64_t turned_level(const struct header *header, int64_t level);
 
 #endif

@@ -16,12 +16,13 @@ struct range {
     int64_t least, most;
 };
 
-static struct range range_of(enum field field, int64_t top_level) {
+static struct range range_of(enum field field, const struct header *header) {
+    int64_t least_level = header->is_rising ? 0 : 1;
     const struct range ranges[] = {
         [CONSTANT] = {0, GOWASHIRU_MOST_CONSTANT},
         [ROTATION] = {-32767, 32767},
         [SCALE] = {1, 3600},
-        [LEVEL] = {1, top_level},
+        [LEVEL] = {least_level, header->top_level - 1 + least_level},
         [COUNT] = {1, 60},
     };
     return ranges[field];
@@ -36,14 +37,15 @@ void tell_range(const struct refusal *refusal) {
     struct record record;
     if (!header_of(refusal->file, &header) || !record_at(refusal, &record))
         return;
+    const char *bound = header.is_rising ? ", one less than the header's L" : ", the header's L";
     for (size_t i = 0; i < record.word->count; i++) {
         if (record.word->fields[i] == OPERAND)
             continue;
-        struct range range = range_of(record.word->fields[i], header.top_level);
+        struct range range = range_of(record.word->fields[i], &header);
         if (record.numbers[i] < range.least || record.numbers[i] > range.most)
             fprintf(stderr, "  %c = %" PRId64 ": in `%s` it is a number from %" PRId64 " to %" PRId64 "%s.\n",
                     field_name(record.word, i), record.numbers[i], record.word->form, range.least, range.most,
-                    record.word->fields[i] == LEVEL ? ", the header's L" : "");
+                    record.word->fields[i] == LEVEL ? bound : "");
     }
 }
 
@@ -87,12 +89,12 @@ static const char *kind_of(const struct word *word) {
 }
 
 /* What a line takes, and how a constant gets to it. */
-static void tell_wanted(const struct word *word, bool is_schedule) {
+static void tell_wanted(const struct word *word, enum file_kind kind) {
     if (strcmp(word->name, "enc") == 0)
         fputs("  `enc` takes a constant.\n", stderr);
     else if (word->fields[1] != OPERAND || word->count == 1)
         fprintf(stderr, "  `%s` takes a ciphertext: an `in` line, or what is computed from one.\n", word->name);
-    else if (is_schedule)
+    else if (kind != CIRCUIT)
         fprintf(stderr, "  `%s` takes two ciphertexts, or a ciphertext and an encoded constant: `enc A S E` encodes constant A.\n",
                 word->name);
     else
@@ -114,5 +116,5 @@ void tell_kinds(const struct refusal *refusal) {
         show_line(line);
         fputc('\n', stderr);
     }
-    tell_wanted(record.word, refusal->file->is_schedule);
+    tell_wanted(record.word, refusal->file->kind);
 }

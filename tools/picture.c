@@ -72,7 +72,7 @@ static void put(struct text *text, const char *format, ...) {
 
 /* What is shown of a line: its word, and its fields with spaces between them. */
 static struct value shown(struct piece line, const struct record *record, struct standing standing) {
-    struct value value = {.is_struck = !record->word->is_kept, .scale = standing.scale, .level = standing.level};
+    struct value value = {.is_struck = !is_kept(record->word), .scale = standing.scale, .level = standing.level};
     value.kind = !standing.has_scale ? BARE : strcmp(record->word->name, "enc") == 0 ? ENCODED : CIPHERTEXT;
     snprintf(value.word, sizeof value.word, "%s", record->word->name);
     size_t start = strlen(value.word) + 1;

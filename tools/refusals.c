@@ -22,7 +22,7 @@ static void tell_not_of_the_form(const struct refusal *refusal) {
 
 static void tell_header_number(const struct refusal *refusal) {
     static const char names[] = {'F', 'W', 'L'};
-    struct header header = {0, 0, 0};
+    struct header header = {.factor = 0};
     header_of(refusal->file, &header);
     const int64_t numbers[] = {header.factor, header.waterline, header.top_level};
     for (size_t i = 0; i < sizeof names; i++)
@@ -30,13 +30,31 @@ static void tell_header_number(const struct refusal *refusal) {
             fprintf(stderr, "  %c = %" PRId64 ": F, W and L are numbers from 1 to 60.\n", names[i], numbers[i]);
 }
 
+/* How many lines after the header, up to this place, have a word whose first kind of file is this one. */
+static uint32_t count_words(const struct file *file, uint32_t place, enum file_kind first) {
+    size_t at = 0;
+    uint32_t count = 0;
+    next_line(file, &at);
+    for (uint32_t here = 2; here <= place; here++) {
+        struct piece line = next_line(file, &at);
+        const struct word *word = line.is_there ? word_of(field_at(line, 0)) : NULL;
+        count += word != NULL && word->first == first;
+    }
+    return count;
+}
+
 static void tell_lines(const struct refusal *refusal) {
-    if (!refusal->file->is_schedule)
+    const struct file *file = refusal->file;
+    if (file->kind == CIRCUIT)
         fputs("  A circuit has at most 256 lines after its header: part it in two.\n", stderr);
     else if (refusal->place == SCHEDULE_LINES + 2)
-        fputs("  A schedule has at most 1,792 lines after its header.\n", stderr);
-    else
+        fprintf(stderr, "  A %s has at most 1,792 lines after its header.\n", kind_names[file->kind]);
+    else if (count_words(file, refusal->place, CIRCUIT) > CIRCUIT_LINES)
         fputs("  Erasing keeps the lines with circuit words, and a circuit has at most 256: this is the 257th.\n", stderr);
+    else
+        fprintf(stderr, "  Each `ds` becomes two lines, and a schedule has at most 1,792 after its header: with this line there are %" PRIu32 ".\n"
+                "  One `ds` of a value can serve all lines that need it.\n",
+                refusal->place - 1 + count_words(file, refusal->place, LISTING));
 }
 
 static void tell_levels(const struct refusal *refusal) {
@@ -61,7 +79,7 @@ static uint32_t kept_place(const struct file *schedule, uint32_t place) {
         line = next_line(schedule, &at);
         here++;
         const struct word *word = line.is_there ? word_of(field_at(line, 0)) : NULL;
-        kept += word != NULL && word->is_kept;
+        kept += word != NULL && is_kept(word);
     }
     return line.is_there ? here : 0;
 }
@@ -106,6 +124,7 @@ static const struct telling tellings[] = {
     [GOWASHIRU_NUMBER_OUT_OF_RANGE] = {"other number outside its range", false, tell_range},
     [GOWASHIRU_ANOTHER_CIRCUIT] = {"the schedule erases to another circuit", false, tell_erasure},
     [GOWASHIRU_BUFFER_TOO_SHORT] = {"buffer too short", true, tell_buffer},
+    [GOWASHIRU_TOO_HIGH_FOR_DS] = {"scale too high for ds", false, tell_broken_rule},
 };
 
 void tell_refusal(const struct refusal *refusal) {

@@ -1,4 +1,4 @@
-/* The scales and levels at a line of a schedule that breaks a rule (refusals 7 to 10). */
+/* The scales and levels at a line of a schedule or a listing that breaks a rule (refusals 7 to 10 and 14). */
 #ifndef RULES_H
 #define RULES_H
 

@@ -23,29 +23,41 @@ static enum status written(const struct arguments *arguments, const void *bytes,
     return write_result(arguments->output, bytes, length) ? DONE : FAILED;
 }
 
-enum status run_plan(const struct arguments *arguments) {
+/* A service that makes one text of another. */
+typedef struct gowashiru_reply text_service(const uint8_t *bytes, size_t length, uint8_t *result, size_t result_length);
+
+static enum status run_text_service(const struct arguments *arguments, enum file_kind kind, text_service *service) {
+    first.kind = kind;
     if (!read_file(&first, arguments->names[0]))
         return FAILED;
-    struct gowashiru_reply reply = gowashiru_plan(first.bytes, first.length, out, sizeof out);
+    struct gowashiru_reply reply = service(first.bytes, first.length, out, sizeof out);
     return reply.number != GOWASHIRU_DONE ? refused(reply, &first) : written(arguments, out, reply.length);
 }
 
+enum status run_plan(const struct arguments *arguments) {
+    return run_text_service(arguments, CIRCUIT, gowashiru_plan);
+}
+
+enum status run_erase(const struct arguments *arguments) {
+    return run_text_service(arguments, SCHEDULE, gowashiru_erase);
+}
+
+enum status run_from_rising(const struct arguments *arguments) {
+    return run_text_service(arguments, LISTING, gowashiru_from_rising);
+}
+
+enum status run_to_rising(const struct arguments *arguments) {
+    return run_text_service(arguments, SCHEDULE, gowashiru_to_rising);
+}
+
 enum status run_check(const struct arguments *arguments) {
-    second.is_schedule = true;
+    second.kind = SCHEDULE;
     if (!read_file(&first, arguments->names[0]) || !read_file(&second, arguments->names[1]))
         return FAILED;
     struct gowashiru_reply reply = gowashiru_check(first.bytes, first.length, second.bytes, second.length);
     if (reply.number != GOWASHIRU_DONE)
         return refused(reply, reply.file == 1 ? &first : &second);
     return written(arguments, "passed\n", strlen("passed\n"));
-}
-
-enum status run_erase(const struct arguments *arguments) {
-    first.is_schedule = true;
-    if (!read_file(&first, arguments->names[0]))
-        return FAILED;
-    struct gowashiru_reply reply = gowashiru_erase(first.bytes, first.length, out, sizeof out);
-    return reply.number != GOWASHIRU_DONE ? refused(reply, &first) : written(arguments, out, reply.length);
 }
 
 enum status run_least_level(const struct arguments *arguments) {
@@ -61,7 +73,7 @@ enum status run_least_level(const struct arguments *arguments) {
 
 /* Only a schedule that keeps the rules has scales and levels to draw: it is checked against its own erasure. */
 enum status run_picture(const struct arguments *arguments) {
-    first.is_schedule = true;
+    first.kind = SCHEDULE;
     if (!read_file(&first, arguments->names[0]))
         return FAILED;
     struct gowashiru_reply reply = gowashiru_erase(first.bytes, first.length, out, sizeof out);

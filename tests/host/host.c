@@ -1,5 +1,5 @@
 /*
- * A host of the library as a service is one. It loads the example circuits and schedules, notes in a first pass on
+ * A host of the library as a service is one. It loads the example circuits and schedules, makes listings, notes in a first pass on
  * one thread what every call replies and writes, and then repeats these calls from several threads at once, on stacks
  * of the size that the header states. The first difference ends it with a message that names the input.
  *
@@ -38,9 +38,9 @@ enum {
     OVERLAP_SECONDS = 20
 };
 
-enum service { PLAN, CHECK, ERASE, LEAST };
+enum service { PLAN, CHECK, ERASE, LEAST, FROM_RISING, TO_RISING };
 
-static const char *const service_names[] = {"plan", "check", "erase", "least level"};
+static const char *const service_names[] = {"plan", "check", "erase", "least level", "from rising", "to rising"};
 
 struct input {
     char name[128];
@@ -218,7 +218,7 @@ static const struct input *load(const char *folder, const char *name)
 
 static bool writes(const struct job *job)
 {
-    return job->service == PLAN || job->service == ERASE;
+    return job->service != CHECK && job->service != LEAST;
 }
 
 static struct gowashiru_reply call(const struct job *job, uint8_t *out)
@@ -231,6 +231,10 @@ static struct gowashiru_reply call(const struct job *job, uint8_t *out)
         return gowashiru_check(file->bytes, file->length, job->schedule->bytes, job->schedule->length);
     case ERASE:
         return gowashiru_erase(file->bytes, file->length, out, job->room);
+    case FROM_RISING:
+        return gowashiru_from_rising(file->bytes, file->length, out, job->room);
+    case TO_RISING:
+        return gowashiru_to_rising(file->bytes, file->length, out, job->room);
     default:
         return gowashiru_least_level(file->bytes, file->length);
     }
@@ -286,6 +290,8 @@ static bool is_lawful(const struct job *job, struct gowashiru_reply reply)
         [CHECK] = 0x1fbe, /* 1 to 5, 7 to 12 */
         [ERASE] = 0x283e, /* 1 to 5, 11, 13 */
         [LEAST] = 0x087e, /* 1 to 6, 11 */
+        [FROM_RISING] = 0x6fbe, /* 1 to 5, 7 to 11, 13, 14 */
+        [TO_RISING] = 0x2fbe, /* 1 to 5, 7 to 11, 13 */
     };
     if (reply.number == 0) {
         bool length = job->service == LEAST ? reply.length >= 1 && reply.length <= 60
@@ -293,7 +299,7 @@ static bool is_lawful(const struct job *job, struct gowashiru_reply reply)
                                             : reply.length >= 1;
         return reply.file == 0 && reply.place == 0 && length;
     }
-    if (reply.number > 13 || !(refusals[job->service] >> reply.number & 1) || reply.length)
+    if (reply.number > 14 || !(refusals[job->service] >> reply.number & 1) || reply.length)
         return false;
     if (reply.number == 13)
         return reply.file == 0 && reply.place == 0;
@@ -344,6 +350,16 @@ static struct job *add_erase(const struct input *schedule, size_t room)
 static struct job *add_least(const struct input *circuit)
 {
     return add_job((struct job){.service = LEAST, .file = circuit});
+}
+
+static struct job *add_from_rising(const struct input *listing, size_t room)
+{
+    return add_job((struct job){.service = FROM_RISING, .file = listing, .room = room});
+}
+
+static struct job *add_to_rising(const struct input *schedule, size_t room)
+{
+    return add_job((struct job){.service = TO_RISING, .file = schedule, .room = room});
 }
 
 /* The same call with other buffers: just enough, every shorter length, none. The soak repeats only the ends. */
@@ -408,19 +424,43 @@ static void compare(const struct job *job, const char *folder, const char *examp
         fail(job, "differs from %s at byte %zu", name, at);
 }
 
-/* A plan that was written must pass against its circuit and erase to it. */
-static void close_circle(const struct job *plan)
+static void expect_bytes(const struct job *job, const struct input *due)
+{
+    expect(job, 0, 0, 0);
+    if (job->reply.length != due->length || memcmp(job->result, due->bytes, due->length))
+        fail(job, "is not %s", due->name);
+}
+
+/* What a call wrote, as an input. */
+static const struct input *add_result(const char *of, const struct job *job)
 {
     char name[160];
+    snprintf(name, sizeof name, "%s of %s", of, job->file->name);
+    return add_input(name, job->result, job->reply.length);
+}
+
+/* A schedule that keeps the rules goes out as a listing, and the listing gives the schedule back. */
+static const struct job *go_out_and_back(const struct input *schedule)
+{
+    const struct job *out = add_to_rising(schedule, ENOUGH);
+    if (out->reply.number)
+        return out;
+    const struct job *back = add_from_rising(add_result("listing", out), ENOUGH);
+    expect_bytes(back, schedule);
+    try_rooms(out);
+    try_rooms(back);
+    return out;
+}
+
+/* A plan that was written must pass against its circuit, erase to it, and go out as a listing and back. */
+static void close_circle(const struct job *plan)
+{
     if (plan->reply.number)
         return;
-    snprintf(name, sizeof name, "plan of %s", plan->file->name);
-    const struct input *schedule = add_input(name, plan->result, plan->reply.length);
+    const struct input *schedule = add_result("plan", plan);
     expect(add_check(plan->file, schedule), 0, 0, 0);
-    const struct job *erased = add_erase(schedule, ENOUGH);
-    expect(erased, 0, 0, 0);
-    if (erased->reply.length != plan->file->length || memcmp(erased->result, plan->file->bytes, plan->file->length))
-        fail(erased, "is not the circuit");
+    expect_bytes(add_erase(schedule, ENOUGH), plan->file);
+    expect(go_out_and_back(schedule), 0, 0, 0);
 }
 
 /* ---- Examples ---- */
@@ -458,6 +498,7 @@ static void try_schedule(const char *folder, const char *name)
     const struct job *erased = add_erase(schedule, ENOUGH);
     compare(erased, folder, name, ".erasure");
     try_rooms(erased);
+    go_out_and_back(schedule);
 }
 
 static int try_all(const char *folder, const char *ending, void (*try_one)(const char *, const char *))
@@ -548,9 +589,7 @@ static void try_constants(void)
     for (size_t i = 0; i < sizeof numbers / sizeof numbers[0]; i++) {
         const struct input *circuit = with_constant(numbers[i], false), *due = with_constant(numbers[i], true);
         const struct job *plan = add_plan(circuit, ENOUGH);
-        expect(plan, 0, 0, 0);
-        if (plan->reply.length != due->length || memcmp(plan->result, due->bytes, due->length))
-            fail(plan, "is not %s", due->name);
+        expect_bytes(plan, due);
         expect(add_least(circuit), 0, 0, 0);
         try_rooms(plan);
         close_circle(plan);
@@ -582,6 +621,7 @@ static void try_large_constants(void)
         expect(add_check(circuit, schedule), due, 1, 3);
         expect(add_check(good, schedule), due, 2, 3);
         expect(add_erase(schedule, ENOUGH), due, 1, 3);
+        expect(add_to_rising(schedule, ENOUGH), due, 1, 3);
     }
 }
 
@@ -599,24 +639,73 @@ static void try_long_schedules(void)
     const struct input *longest = take("1792 lines.schedule");
     expect(add_check(circuit, longest), 0, 0, 0);
     const struct job *erased = add_erase(longest, ENOUGH);
-    expect(erased, 0, 0, 0);
-    if (erased->reply.length != circuit->length || memcmp(erased->result, circuit->bytes, circuit->length))
-        fail(erased, "is not %s", circuit->name);
+    expect_bytes(erased, circuit);
     try_rooms(erased);
+    expect(go_out_and_back(longest), 0, 0, 0);
 
     put("%.*sus\t0\t1\n", (int)longest->length, (const char *)longest->bytes);
     const struct input *over = take("1793 lines.schedule");
     expect(add_check(circuit, over), 3, 2, 1794);
     expect(add_erase(over, ENOUGH), 3, 1, 1794);
+    expect(add_to_rising(over, ENOUGH), 3, 1, 1794);
 
     put("schedule%.*sneg\t0\n", (int)circuit->length - 7, (const char *)circuit->bytes + 7);
     const struct input *kept = take("257 kept lines.schedule");
     expect(add_check(circuit, kept), 12, 1, 258);
     expect(add_erase(kept, ENOUGH), 3, 1, 258);
+    expect(add_to_rising(kept, ENOUGH), 3, 1, 258);
+}
+
+/* A converted listing passes against its own erasure, and its schedule goes out and back. */
+static void try_converted(const struct job *converted)
+{
+    expect(converted, 0, 0, 0);
+    try_rooms(converted);
+    const struct input *schedule = add_result("schedule", converted);
+    const struct job *erased = add_erase(schedule, ENOUGH);
+    expect(erased, 0, 0, 0);
+    expect(add_check(add_result("erasure", erased), schedule), 0, 0, 0);
+    expect(go_out_and_back(schedule), 0, 0, 0);
+}
+
+/* A listing of so many inputs and of downscales of the first, and a last line. */
+static const struct input *with_downscales(int inputs_made, int downscales, const char *last)
+{
+    char name[64];
+    put("rising\t60\t20\t2\n");
+    for (int i = 0; i < inputs_made + downscales; i++)
+        put(i < inputs_made ? "in\n" : "ds\t0\n");
+    put("%s", last);
+    snprintf(name, sizeof name, "%d in and %d ds.rising", inputs_made, downscales);
+    return take(name);
+}
+
+/* Document 000's own schedules with its downscale, which are examples; listings at the limits on lines, before and after the conversion. */
+static void try_listings(void)
+{
+    put("rising\t60\t20\t2\nin\nin\nmul\t0\t0\nmul\t1\t1\nadd\t2\t3\nmul\t4\t4\nrs\t5\t1\nds\t4\nmul\t6\t7\nout\t8\n");
+    const struct job *proactive = add_from_rising(take("proactive.rising"), ENOUGH);
+    expect_bytes(proactive, find("cubed_sum.proactive.schedule"));
+    try_converted(proactive);
+    put("rising\t60\t20\t2\nin\nin\nmul\t0\t0\nmul\t1\t1\nadd\t2\t3\nds\t4\nmul\t5\t5\nmul\t6\t5\nout\t7\n");
+    const struct job *early = add_from_rising(take("early.rising"), ENOUGH);
+    expect_bytes(early, find("cubed_sum.early.schedule"));
+    try_converted(early);
+
+    try_converted(add_from_rising(with_downscales(100, 846, ""), ENOUGH));
+    expect(add_from_rising(with_downscales(100, 847, ""), ENOUGH), 3, 1, 948);
+    expect(add_from_rising(with_downscales(101, 846, ""), ENOUGH), 3, 1, 948);
+    expect(add_from_rising(with_downscales(100, 847, "us\t0\t101\n"), ENOUGH), 9, 1, 949);
+    expect(add_from_rising(with_downscales(256, 1, "in\n"), ENOUGH), 3, 1, 259);
+    expect(add_from_rising(with_downscales(1, 1792, ""), ENOUGH), 3, 1, 1794);
+    expect(add_from_rising(with_downscales(1, 0, "us\t0\t60\nds\t1\n"), ENOUGH), 14, 1, 4);
+    expect(add_from_rising(with_downscales(1, 1, "ds\t1\n"), ENOUGH), 9, 1, 4);
+    expect(add_from_rising(with_downscales(1, 1, "const\t4294967295\nenc\t2\t20\t2\n"), ENOUGH), 11, 1, 5);
+    expect(add_from_rising(with_downscales(1, 0, "ds\t99999999999\n"), ENOUGH), 4, 1, 3);
 }
 
 /* An example cut after each byte, and with one bit of each byte turned: short calls, most of them refused. */
-static void try_damaged(const char *name, const struct input *circuit)
+static void try_damaged(const char *name, void (*try_one)(const struct input *))
 {
     uint8_t bytes[512];
     char label[200];
@@ -628,15 +717,26 @@ static void try_damaged(const char *name, const struct input *circuit)
         memcpy(bytes, good->bytes, good->length);
         bytes[place] ^= (uint8_t)(at % 2);
         snprintf(label, sizeof label, "%s %s byte %zu", name, at % 2 ? "with a bit turned in" : "cut before", place);
-        const struct input *damaged = add_input(label, bytes, at % 2 ? good->length : place);
-        if (circuit) {
-            add_check(circuit, damaged);
-            add_erase(damaged, 1024);
-        } else {
-            add_plan(damaged, 1024);
-            add_least(damaged);
-        }
+        try_one(add_input(label, bytes, at % 2 ? good->length : place));
     }
+}
+
+static void try_damaged_circuit(const struct input *damaged)
+{
+    add_plan(damaged, 1024);
+    add_least(damaged);
+}
+
+static void try_damaged_schedule(const struct input *damaged)
+{
+    add_check(find("listing.circuit"), damaged);
+    add_erase(damaged, 1024);
+    add_to_rising(damaged, 1024);
+}
+
+static void try_damaged_listing(const struct input *damaged)
+{
+    add_from_rising(damaged, 1024);
 }
 
 /* NULL with length 0 for each pointer; a missing file is an empty one, refused with 1 at its line 1. */
@@ -656,6 +756,10 @@ static void try_null(void)
     expect(add_erase(none, 0), 1, 1, 1);
     expect(add_job(nothing), 1, 1, 1);
     expect(add_least(none), 1, 1, 1);
+    for (nothing.service = FROM_RISING; nothing.service <= TO_RISING; nothing.service++)
+        expect(add_job(nothing), 1, 1, 1);
+    expect(add_from_rising(none, ENOUGH), 1, 1, 1);
+    expect(add_to_rising(none, ENOUGH), 1, 1, 1);
 }
 
 /* ---- Input and output in the same buffer: outside the contract, so only looked at ---- */
@@ -821,16 +925,20 @@ int main(int count, char **words)
     int schedules = try_all(folder, ".schedule", try_schedule);
     try_long_circuits();
     try_long_schedules();
+    try_listings();
     try_constants();
     try_large_constants();
     try_null();
     whole_count = job_count;
-    try_damaged("listing.circuit", NULL);
-    try_damaged("listing.by_hand.schedule", find("listing.circuit"));
+    try_damaged("listing.circuit", try_damaged_circuit);
+    try_damaged("listing.by_hand.schedule", try_damaged_schedule);
+    try_damaged("proactive.rising", try_damaged_listing);
     printf("first pass: %d circuits, %d schedules, %zu inputs in all, %zu calls to repeat\n", circuits, schedules,
            input_count, job_count);
     try_overlap(PLAN);
     try_overlap(ERASE);
+    try_overlap(FROM_RISING);
+    try_overlap(TO_RISING);
     fflush(stdout);
     soak(calls, only_report);
     puts("passed");

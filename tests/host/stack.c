@@ -13,11 +13,11 @@
 #include <string.h>
 #include <ucontext.h>
 
-enum { FILL = 0xA5, MOST_INPUTS = 24, SERVICES = 5 };
+enum { FILL = 0xA5, MOST_INPUTS = 32, SERVICES = 7 };
 
-enum service { NOTHING, PLAN, CHECK, ERASE, LEAST };
+enum service { NOTHING, PLAN, CHECK, ERASE, LEAST, FROM_RISING, TO_RISING };
 
-static const char *const names[SERVICES] = {"nothing", "plan", "check", "erase", "least level"};
+static const char *const names[SERVICES] = {"nothing", "plan", "check", "erase", "least level", "from rising", "to rising"};
 
 struct input {
     char *bytes;
@@ -43,6 +43,10 @@ static void call(void)
         gowashiru_erase(one, first.length, out, sizeof out);
     else if (service == LEAST)
         gowashiru_least_level(one, first.length);
+    else if (service == FROM_RISING)
+        gowashiru_from_rising(one, first.length, out, sizeof out);
+    else if (service == TO_RISING)
+        gowashiru_to_rising(one, first.length, out, sizeof out);
 }
 
 /* The bytes of stack that the call took. */
@@ -126,6 +130,31 @@ static void make_constants(void)
     take();
 }
 
+/* A full listing, with a downscale among the upscales, and this last line. */
+static void make_listing(const char *last)
+{
+    put("rising\t60\t20\t60\nin\nconst\t4294967295\nenc\t1\t20\t59\nds\t0\n");
+    for (int value = 4; value < 1790; value++)
+        put(value % 7 ? "us\t%d\t1\n" : "neg\t%d\n", value - 1);
+    put("%s", last);
+    take();
+}
+
+/* Listings that are converted, with as many lines as fit before and after, and listings with the longest numbers. */
+static void make_listings(void)
+{
+    make_listing("us\t1789\t1\n");
+    make_listing("ds\t99999999999\n");
+    make_listing("enc\t99999999999\t99999999999\t99999999999\n");
+    make_listing("rot\t99999999999\t-9999999999\n");
+    put("rising\t60\t20\t2\n");
+    for (int value = 0; value < 946; value++)
+        put(value < 100 ? "in\n" : "ds\t0\n");
+    take();
+    put("rising\t99999999999\t99999999999\t99999999999\n");
+    take();
+}
+
 static void make_inputs(void)
 {
     make_circuit("out\t254\n");
@@ -145,6 +174,7 @@ static void make_inputs(void)
     make_schedule("const\t4294967295\n");
     make_schedule("const\t99999999999\n");
     make_constants();
+    make_listings();
     put("schedule\t99999999999\t99999999999\t99999999999\n");
     take();
     /* The plan of the first circuit, its longest schedule with all kinds of conversions. */
@@ -173,7 +203,7 @@ int main(void)
     make_inputs();
     size_t own = most_of(NOTHING), most = 0;
     printf("stack:");
-    for (enum service asked = PLAN; asked <= LEAST; asked++) {
+    for (enum service asked = PLAN; asked <= TO_RISING; asked++) {
         size_t bytes = most_of(asked) - own;
         printf("%s %s %zu bytes", asked == PLAN ? "" : ",", names[asked], bytes);
         most = bytes > most ? bytes : most;

@@ -5,21 +5,23 @@ use mathlib.Core.List.{List}
 use mathlib.Core.Path.{_≡_, ap, _∙_}
 use borrow.Author.Needs.{needs}
 use Rattle.fields.specs.Pieces.{Bytes}
-use Rattle.model.specs.declared.Grammar.the-variants.{Circuit}
+use Rattle.model.specs.declared.Grammar.the-variants.{Circuit, Schedule}
 use Rattle.model.specs.declared.Answer.{Answer}
 use Rattle.model.specs.declared.Answer.the-variants.{Refused}
 use Rattle.model.specs.declared.Header.{Header}
-use Rattle.text.specs.Tables.{fileOf}
+use Rattle.text.specs.Tables.{TableFormed, fileOf}
 use Rattle.model.specs.Files.{File}
 use Rattle.model.specs.Services.{erase, eraseFile}
-use Rattle.model.specs.Answers.{check}
+use Rattle.model.specs.Answers.{rulesAnswer, check}
 use Rattle.text.specs.Files.{readText, circuitContext, scheduleContext, eraseContext, fileText}
+use Rattle.listings.specs.Held.{countedTable, heldAnswer}
 use Rattle.tables.specs.Records.{linesHeld, held}
 use Rattle.tables.proofs.Records.{still-long}
 use Rattle.reader.specs.declared.FileRead.{FileRead}
 use Rattle.reader.specs.declared.FileRead.the-variants as Read
 use Rattle.reader.specs.Reads.{readingOf, Filled}
 use Rattle.reader.proofs.Answers.{read-refused, read-file, few-read, circuit-formed, schedule-formed, erasing-formed}
+use Rattle.rules.proofs.Counted.{schedule-counted, schedule-answer}
 use Rattle.erasing.specs.declared.Compared.{Compared}
 use Rattle.erasing.specs.declared.Compared.the-variants.{Same, Differs}
 use Rattle.erasing.specs.Comparing.{afterCompared}
@@ -36,9 +38,13 @@ pub is-schedule :
 is-schedule text r records h count e q f = record { header = h; formed = erasing-formed text r records h count e q f }
 
 -- ---- the verdict
-module _ (d : Compared) (rules verdict : Answer) (q : afterCompared d rules ≡ verdict) where
-  pub by-rules : (r : Answer) → d ≡ Same → r ≡ rules → r ≡ verdict
-  by-rules r e is = is ∙ (rw e at q)
+pub table-counted : (h : Header) (records : List (List ℕ)) (count : ℕ) → TableFormed Schedule (held h records count) → TableFormed Schedule (countedTable (held h records count))
+table-counted h records count formed = schedule-counted (held h records count) formed
+
+module _ (d : Compared) (h : Header) (records : List (List ℕ)) (count : ℕ) (verdict : Answer) (q : afterCompared d (rulesAnswer h (linesHeld records count)) ≡ verdict) where
+  pub by-rules :
+      (r : Answer) → d ≡ Same → TableFormed Schedule (held h records count) → r ≡ heldAnswer h (linesHeld records count) → r ≡ verdict
+  by-rules r e formed is = is ∙ schedule-answer h (linesHeld records count) (formed .lines) ∙ (rw e at q)
 
   pub by-difference : (p : ℕ) → d ≡ Differs p → Refused 12 p ≡ verdict
   by-difference p e = rw e at q
@@ -93,6 +99,6 @@ pub few-kept : (count kept : ℕ) → kept ≤ count → count ≤ 1792 → kept
 few-kept count kept a b = omega arith
 
 -- what is asked on the way, and what is returned
-pub ruleset step-needs = (needs, still-long, is-schedule, few-read, circuit-formed, schedule-formed, few-kept)
+pub ruleset step-needs = (needs, still-long, is-schedule, few-read, circuit-formed, schedule-formed, table-counted, few-kept)
 
 pub ruleset step-returns = (by-rules, by-difference, circuit-unread, schedule-unread, both-read, erase-unread, erasure-text)

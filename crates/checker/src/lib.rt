@@ -1,7 +1,6 @@
 // Check and erase, from the bytes of files to the reply. The text layer is used by its contracts alone.
 use erasing::Compared;
 use model::Answer;
-use model::Grammar;
 use model::Header;
 use reader::FileRead;
 use services::Reply;
@@ -28,7 +27,10 @@ fn verdict<'a>(
     ensures { λ r. ⌜ r ≡ check (fileOf (held header (now (circuit .entry)) size)) (fileOf (held other (now (schedule .entry)) count)) ⌝ }
 {
     match erasing::compare_erasure(header, circuit, size, other, schedule, count) {
-        Compared::Same => rules::rules_answer(other, schedule, count),
+        Compared::Same => {
+            let mut scales = [0u16; 1792];
+            rules::rules_answer(other, schedule, count, &mut scales)
+        }
         Compared::Differs { place } => Answer::Refused { number: 12, place },
     }
 }
@@ -73,7 +75,7 @@ pub fn erase(schedule: &[u8], out: &mut [u8]) -> Reply
         FileRead::Table { header, count } => {
             let mut erasure = [tables::FREE; 1792];
             let kept = erasing::erase_table(&records, count, &mut erasure);
-            replies::lend(out, Grammar::Circuit, header, &erasure, kept)
+            replies::lend(out, b"circuit", header, &erasure, kept)
         }
     }
 }

@@ -4,5 +4,7 @@ use Rattle.services.proofs.Planning.{plan-promise}
 use Rattle.services.proofs.Checking.{check-promise}
 use Rattle.services.proofs.Erasing.{erase-promise}
 use Rattle.services.proofs.Least.{least-promise}
+use Rattle.services.proofs.Converting.{from-rising-promise}
+use Rattle.risingwriter.proofs.Promise.{to-rising-promise}
 
-pub ruleset promises = (needs, plan-promise, check-promise, erase-promise, least-promise)
+pub ruleset promises = (needs, plan-promise, check-promise, erase-promise, least-promise, from-rising-promise, to-rising-promise)

@@ -1,6 +1,8 @@
 // The services for a host in C, each with what the demands ask of it. include/gowashiru.h has the declarations.
 use services::Reply;
 ghost use Rattle.services.specs.Promises.{PlanPromise, CheckPromise, ErasePromise, LeastPromise};
+ghost use Rattle.services.specs.Listings.{FromRisingPromise};
+ghost use Rattle.risingwriter.specs.GoingOut.{ToRisingPromise};
 
 // Plans a circuit.
 #[no_mangle]
@@ -32,4 +34,20 @@ pub extern "C" fn gowashiru_least_level(circuit: &[u8]) -> Reply
     ensures { λ r. ⌜ LeastPromise (now (circuit .entry)) r ⌝ }
 {
     planner::least_level(circuit)
+}
+
+// Makes a schedule of a listing in the rising-level dialect.
+#[no_mangle]
+pub extern "C" fn gowashiru_from_rising(listing: &[u8], out: &mut [u8]) -> Reply
+    ensures { λ r. ⌜ FromRisingPromise (now (listing .entry)) (now (out .entry)) r (now (out .exit)) ⌝ }
+{
+    converter::from_rising(listing, out)
+}
+
+// Makes a listing in the rising-level dialect of a schedule.
+#[no_mangle]
+pub extern "C" fn gowashiru_to_rising(schedule: &[u8], out: &mut [u8]) -> Reply
+    ensures { λ r. ⌜ ToRisingPromise (now (schedule .entry)) (now (out .entry)) r (now (out .exit)) ⌝ }
+{
+    risingwriter::to_rising(schedule, out)
 }

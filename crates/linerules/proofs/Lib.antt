@@ -1,2 +1,3 @@
 mod WordLaws
-mod LineLaws
+mod DownscaleLaws
+pub mod LineLaws

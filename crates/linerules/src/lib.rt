@@ -7,8 +7,9 @@ ghost use Prim.Native.Nat.{_≤_};
 ghost use lib.Dec.{T};
 ghost use Rattle.model.specs.Scales.{headerInRange};
 ghost use Rattle.model.specs.Files.{inRange};
+ghost use Rattle.listings.specs.Held.{countedLine};
 ghost use Rattle.bounds.specs.Bounded.{SmallNumbers, SmallRuled};
-ghost use Rattle.linerules.specs.Ruled.{movedBy, sumOf, productOf, ruledBy, Small};
+ghost use Rattle.linerules.specs.Ruled.{movedBy, sumOf, productOf, downscaledOf, ruledBy, Small};
 
 // The scale and the level that a line holds; a bare constant has neither, and both are 0.
 pub struct Held {
@@ -61,10 +62,30 @@ fn product(header: Header, x: Held, y: Held) -> Ruled
     Ruled::Stops(7)
 }
 
-// A line whose operands hold x and y.
+// A scale below W + F (14), raised to W + F, which is asked of its level (9), and rescaled by 1: to W at one level less.
+fn downscaled(header: Header, x: Held) -> Ruled
+    requires { ⌜ T (headerInRange header) ⌝ }
+    requires { ⌜ Small x ⌝ }
+    ensures { λ r. ⌜ r ≡ downscaledOf header x ⌝ }
+    ensures small { λ r. ⌜ SmallRuled r ⌝ }
+{
+    let raised = header.waterline + header.factor;
+    if raised <= (x.scale as u32) {
+        return Ruled::Stops(14);
+    }
+    match bounds::bounded_natural(header, raised, x.level as u32) {
+        Ruled::Stops(number) => Ruled::Stops(number),
+        Ruled::Goes { level, .. } => Ruled::Goes {
+            scale: header.waterline as u16,
+            level: level - 1,
+        },
+    }
+}
+
+// A line whose operands hold x and y; a rescale by 0 is a `ds`.
 pub fn ruled(header: Header, line: Line, x: Held, y: Held) -> Ruled
     requires { ⌜ T (headerInRange header) ⌝ }
-    requires { ⌜ T (inRange header line) ⌝ }
+    requires { ⌜ T (inRange header (countedLine line)) ⌝ }
     requires { ⌜ Small x ⌝ }
     requires { ⌜ Small y ⌝ }
     ensures { λ r. ⌜ r ≡ ruledBy header line x y ⌝ }
@@ -84,6 +105,9 @@ pub fn ruled(header: Header, line: Line, x: Held, y: Held) -> Ruled
             level as u32,
         ),
         Line::Rs(_, count) => {
+            if count == 0 {
+                return downscaled(header, x);
+            }
             let lowered = header.factor * (count as u32);
             moved(header, x, 0, lowered, count as u32)
         }

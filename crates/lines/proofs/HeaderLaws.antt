@@ -30,23 +30,38 @@ use Rattle.model.specs.Files.{everyUsable}
 use Rattle.model.proofs.Tests.{and-first, and-second}
 use Rattle.text.specs.Files.{headerWord, headerOf}
 use Rattle.text.proofs.FormLaws.{header-made}
+use Rattle.listings.specs.declared.Levels.{Levels}
+use Rattle.listings.specs.declared.Levels.the-variants.{Falling, Rising}
 use Rattle.forms.specs.declared.NumbersAt.{NumbersAt}
 use Rattle.forms.specs.declared.NumbersAt.the-variants.{Numbers, NotOfForm, OutOfRange}
 use Rattle.forms.specs.Along.{lineIn, isClosed, fieldIn, numbersIn}
 use Rattle.forms.specs.Asked.{Asked, askedAt, described, readAs, anyOutside, numbersTo}
 use Rattle.forms.proofs.WordLaws.{uncut, field-line}
 use Rattle.forms.proofs.TextLaws.{titled-reads, alike, alike-numbers, numbers-closed, numbers-held}
-use Rattle.lines.specs.Lines.{headerTo, headerJudged}
+use Rattle.lines.specs.Lines.{headerWordOf, headerTo, headerJudged}
 use Rattle.lines.proofs.HeldLaws.{askedOf, all-in, all-same}
 use Rattle.lines.proofs.ReadLaws.{Answered, answered, not-told, told-outside, Told, told}
 
--- ---- the word
-module _ (g : Grammar) (t : Bytes) (r : Bool) where
-  pub circuit-word : g ≡ Circuit → r ≡ sameBytes (fieldIn t) (headerWord Circuit) → r ≡ sameBytes (fieldIn t) (headerWord g)
-  circuit-word e q = rw e q
+-- ---- the word, and its length
+module _ (levels : Levels) (g : Grammar) (t : Bytes) (r : Bool) where
+  pub rising-word : levels ≡ Rising → r ≡ sameBytes (fieldIn t) (headerWordOf Rising g) → r ≡ sameBytes (fieldIn t) (headerWordOf levels g)
+  rising-word e q = rw e q
 
-  pub schedule-word : g ≡ Schedule → r ≡ sameBytes (fieldIn t) (headerWord Schedule) → r ≡ sameBytes (fieldIn t) (headerWord g)
-  schedule-word e q = rw e q
+  pub circuit-word : levels ≡ Falling → g ≡ Circuit → r ≡ sameBytes (fieldIn t) (headerWord Circuit) → r ≡ sameBytes (fieldIn t) (headerWordOf levels g)
+  circuit-word f e q = rw (f, e) q
+
+  pub schedule-word : levels ≡ Falling → g ≡ Schedule → r ≡ sameBytes (fieldIn t) (headerWord Schedule) → r ≡ sameBytes (fieldIn t) (headerWordOf levels g)
+  schedule-word f e q = rw (f, e) q
+
+module _ (levels : Levels) (g : Grammar) where
+  pub rising-end : levels ≡ Rising → 6 ≡ length (headerWordOf levels g)
+  rising-end e = rw e
+
+  pub circuit-end : levels ≡ Falling → g ≡ Circuit → 7 ≡ length (headerWordOf levels g)
+  circuit-end f e = rw (f, e)
+
+  pub schedule-end : levels ≡ Falling → g ≡ Schedule → 8 ≡ length (headerWordOf levels g)
+  schedule-end f e = rw (f, e)
 
 -- ---- numbers in their ranges, as the machine holds them
 abbrev machine : ℤ → ℤ
@@ -105,37 +120,38 @@ module _ (f w l : ℤ) (sf : SFits w64 f) (sw : SFits w64 w) (sl : SFits w64 l) 
   as-held : record { factor = natAbs (machine f); waterline = natAbs (machine w); top = natAbs (machine l) } ≡ header f w l
   as-held = λ i. record { factor = all-fit .factor .is i; waterline = all-fit .waterline .is i; top = all-fit .top .is i }
 
-pub ruleset word-laws = (needs, circuit-word, schedule-word)
+pub ruleset word-laws = (needs, rising-word, circuit-word, schedule-word, rising-end, circuit-end, schedule-end)
 
 -- ---- the header line that a text begins with is judged by its word and the fields after it
 abbrev tests : Header → Tests
 tests h = (2, headerInRange h) ∷ []
 
-after-word : (g : Grammar) (t : Bytes)
-    → headerJudged g t ≡ cond (sameBytes (fieldIn t) (headerWord g)) (formed (Option·map headerOf (numbersIn headerFields (drop (length (fieldIn t)) t))) tests) (bad 1)
+after-word : (levels : Levels) (g : Grammar) (t : Bytes)
+    → headerJudged levels g t
+    ≡ cond (sameBytes (fieldIn t) (headerWordOf levels g)) (formed (Option·map headerOf (numbersIn headerFields (drop (length (fieldIn t)) t))) tests) (bad 1)
 unfolding headerJudged
-after-word g t = go (isClosed t) refl (sameBytes (fieldIn t) (headerWord g)) refl
+after-word levels g t = go (isClosed t) refl (sameBytes (fieldIn t) (headerWordOf levels g)) refl
   where
-    go : (b : Bool) → isClosed t ≡ b → (u : Bool) → sameBytes (fieldIn t) (headerWord g) ≡ u
-        → cond b (formed (Option·map headerOf (afterWord (headerWord g) headerFields (split tab (lineIn t)))) tests) (bad 1)
+    go : (b : Bool) → isClosed t ≡ b → (u : Bool) → sameBytes (fieldIn t) (headerWordOf levels g) ≡ u
+        → cond b (formed (Option·map headerOf (afterWord (headerWordOf levels g) headerFields (split tab (lineIn t)))) tests) (bad 1)
         ≡ cond u (formed (Option·map headerOf (numbersIn headerFields (drop (length (fieldIn t)) t))) tests) (bad 1)
     go true e true q = ap (λ (o : Option (List ℤ)). formed (Option·map headerOf o) tests)
-        (titled-reads t e (headerWord g) headerFields ∙ ap (λ (u : Bool). cond u (numbersIn headerFields (drop (length (fieldIn t)) t)) none) q)
+        (titled-reads t e (headerWordOf levels g) headerFields ∙ ap (λ (u : Bool). cond u (numbersIn headerFields (drop (length (fieldIn t)) t)) none) q)
     go true e false q = ap (λ (o : Option (List ℤ)). formed (Option·map headerOf o) tests)
-        (titled-reads t e (headerWord g) headerFields ∙ ap (λ (u : Bool). cond u (numbersIn headerFields (drop (length (fieldIn t)) t)) none) q)
+        (titled-reads t e (headerWordOf levels g) headerFields ∙ ap (λ (u : Bool). cond u (numbersIn headerFields (drop (length (fieldIn t)) t)) none) q)
     go false e true q = ap (λ (o : Option (List ℤ)). formed (Option·map headerOf o) tests) (sym (uncut headerFields t e))
     go false e false q = refl
 
-module _ (g : Grammar) (t : Bytes) (u : Bool) (q : u ≡ sameBytes (fieldIn t) (headerWord g)) where
-  pub other-word : u ≡ false → refused 1 1 ≡ headerTo (length (lineIn t) + 1) (headerJudged g t)
-  other-word h = let refuses : headerJudged g t ≡ bad 1 = after-word g t ∙ rw (← q, h) in sym (ap (headerTo (length (lineIn t) + 1)) refuses)
+module _ (levels : Levels) (g : Grammar) (t : Bytes) (u : Bool) (q : u ≡ sameBytes (fieldIn t) (headerWordOf levels g)) where
+  pub other-word : u ≡ false → refused 1 1 ≡ headerTo (length (lineIn t) + 1) (headerJudged levels g t)
+  other-word h = let refuses : headerJudged levels g t ≡ bad 1 = after-word levels g t ∙ rw (← q, h) in sym (ap (headerTo (length (lineIn t) + 1)) refuses)
 
-  module _ (h : u ≡ true) (start : ℕ) (k : start ≡ length (headerWord g)) where
+  module _ (h : u ≡ true) (start : ℕ) (k : start ≡ length (headerWordOf levels g)) where
     past-word : length (fieldIn t) ≡ start
-    past-word = ap length (same-bytes (fieldIn t) (headerWord g) (subst T (sym h ∙ q) tt)) ∙ sym k
+    past-word = ap length (same-bytes (fieldIn t) (headerWordOf levels g) (subst T (sym h ∙ q) tt)) ∙ sym k
 
-    judged-after : headerJudged g t ≡ formed (Option·map headerOf (numbersIn headerFields (drop start t))) tests
-    judged-after = after-word g t ∙ rw (← q, h, past-word)
+    judged-after : headerJudged levels g t ≡ formed (Option·map headerOf (numbersIn headerFields (drop start t))) tests
+    judged-after = after-word levels g t ∙ rw (← q, h, past-word)
 
     line-end : start + length (lineIn (drop start t)) ≡ length (lineIn t)
     line-end = sym (field-line t ∙ rw past-word)
@@ -154,10 +170,10 @@ module _ (g : Grammar) (t : Bytes) (u : Bool) (q : u ≡ sameBytes (fieldIn t) (
           answered gs 1 end (numbersIn headerFields (drop start t)) r
           (p ∙ ap (numbersTo gs 1 end) (sym (alike-numbers headerFields (map readAs gs) (drop start t) tt)))
 
-      pub no-form : (m n : ℕ) → r ≡ NotOfForm m n → refused m n ≡ headerTo (length (lineIn t) + 1) (headerJudged g t)
+      pub no-form : (m n : ℕ) → r ≡ NotOfForm m n → refused m n ≡ headerTo (length (lineIn t) + 1) (headerJudged levels g t)
       no-form m n is =
           let nothing = not-told answer is in
-          let refuses : headerJudged g t ≡ bad 1 = judged-after ∙ rw (nothing .nothing) in
+          let refuses : headerJudged levels g t ≡ bad 1 = judged-after ∙ rw (nothing .nothing) in
           rw (nothing .number, nothing .where-it-is) (sym (ap (headerTo (length (lineIn t) + 1)) refuses))
 
       -- a header that was read is in its ranges if no number is outside them
@@ -168,13 +184,13 @@ module _ (g : Grammar) (t : Bytes) (u : Bool) (q : u ≡ sameBytes (fieldIn t) (
         range : headerInRange (headerOf ns) ≡ not (anyOutside gs ns)
         range = ap (allInRange 0 headerFields) (header-made held) ∙ all-in 0 held
 
-        judged-so : headerJudged g t ≡ cond (not (anyOutside gs ns)) (good (headerOf ns)) (bad 2)
+        judged-so : headerJudged levels g t ≡ cond (not (anyOutside gs ns)) (good (headerOf ns)) (bad 2)
         judged-so = judged-after ∙ rw (read, range)
 
-      pub out-of-range : r ≡ OutOfRange → refused 2 1 ≡ headerTo (length (lineIn t) + 1) (headerJudged g t)
+      pub out-of-range : r ≡ OutOfRange → refused 2 1 ≡ headerTo (length (lineIn t) + 1) (headerJudged levels g t)
       out-of-range is =
           let o = told-outside answer is in
-          let refuses : headerJudged g t ≡ bad 2 = judged-so (o .given) (o .read) ∙ rw (o .outside) in
+          let refuses : headerJudged levels g t ≡ bad 2 = judged-so (o .given) (o .read) ∙ rw (o .outside) in
           sym (ap (headerTo (length (lineIn t) + 1)) refuses)
 
       module _ (x y z : ℤ) (e : ℕ) (is : r ≡ Numbers x y z e) where
@@ -204,9 +220,9 @@ module _ (g : Grammar) (t : Bytes) (u : Bool) (q : u ≡ sameBytes (fieldIn t) (
           header-fits = all-fit x y z sx sy sz header-ranged
 
           pub header-read : read (record { factor = natAbs (machine x); waterline = natAbs (machine y); top = natAbs (machine z) }, e + 1)
-              ≡ headerTo (length (lineIn t) + 1) (headerJudged g t)
+              ≡ headerTo (length (lineIn t) + 1) (headerJudged levels g t)
           header-read =
-              let judged : headerJudged g t ≡ good (headerOf (numbers-told .given)) = judged-so (numbers-told .given) (numbers-told .read) ∙ rw (numbers-told .inside) in
+              let judged : headerJudged levels g t ≡ good (headerOf (numbers-told .given)) = judged-so (numbers-told .given) (numbers-told .read) ∙ rw (numbers-told .inside) in
               ap₂ (λ (v : Header) (m : ℕ). read (v, m + 1)) (as-held x y z sx sy sz header-ranged ∙ as-given) (numbers-told .ends ∙ line-end)
               ∙ sym (ap (headerTo (length (lineIn t) + 1)) judged)
 

@@ -15,22 +15,20 @@ use mir.Val.{SFits}
 use Rattle.ints.specs.Parts.{positive}
 use Rattle.fields.specs.declared.Size.the-variants.{Within, Above}
 use Rattle.rows.specs.Fields.{Holds, operand, ranged, upToTop, amount, within, inRange, allInRange}
-use Rattle.rows.specs.Forms.{Said}
 use Rattle.rows.proofs.FieldLaws.{Natural, number, Held, Fields, no-field, field}
 use Rattle.model.specs.declared.Grammar.{Grammar}
 use Rattle.model.specs.declared.Line.{Line}
 use Rattle.model.specs.declared.Line.the-variants.{Free}
-use Rattle.model.specs.declared.Word.{Word}
 use Rattle.model.specs.declared.Word.the-variants.{Const, Rot}
 use Rattle.model.specs.Words.{entry, isOperand, operandsAmong}
 use Rattle.model.specs.Numbering.{sameWord}
-use Rattle.model.specs.Files.{lineOf, operands, kindAt, isUsable, everyUsable}
+use Rattle.model.specs.Files.{operands, kindAt, isUsable, everyUsable}
 use Rattle.model.proofs.Tests.{and-first, and-second}
 use Rattle.model.proofs.Formed.{usable-below}
-use Rattle.model.proofs.EveryWord.{every-word, each-word, same-word}
-use Rattle.text.proofs.WordLaws.{said-line}
+use Rattle.model.proofs.EveryWord.{every, every-word, each-word}
+use Rattle.listings.specs.Listings.{ListedWord, word, ds, wordFields}
 use Rattle.forms.proofs.TextLaws.{isSigned, Small}
-use Rattle.words.specs.Words.{rowOf}
+use Rattle.words.specs.Words.{rowOf, heldWord, rowIn}
 use Rattle.judging.specs.Judging.{NumbersFit, judgedAs}
 use Rattle.lines.specs.Lines.{askedBy}
 use Rattle.forms.specs.Asked as A
@@ -44,9 +42,15 @@ askedOf top upToTop = A.number (pos 1) top
 askedOf top (amount most) = A.number (negℤ (pos most)) most
 
 -- a word's row says so
-pub row-asked : (top : ℕ) (w : Word) → askedBy (rowOf w) top ≡ map (askedOf top) (entry w .fields)
+pub row-asked : (top : ℕ) (v : ListedWord) → askedBy false (rowIn v) top ≡ map (askedOf top) (wordFields v)
 unfolding askedAt
-row-asked top w = each-word (λ v. askedBy (rowOf v) top) (λ v. map (askedOf top) (entry v .fields)) refl w
+row-asked top (word w) = each-word (λ u. askedBy false (rowOf u) top) (λ u. map (askedOf top) (entry u .fields)) refl w
+row-asked top ds = refl
+
+-- what is told of every word of a listing
+pub every-listed : (p : ListedWord → Bool) → T (every (λ w. p (word w)) && p ds) → (v : ListedWord) → T (p v)
+every-listed p t (word w) = every-word (λ u. p (word u)) (and-first (every (λ u. p (word u))) (p ds) t) w
+every-listed p t ds = and-second (every (λ u. p (word u))) (p ds) t
 
 -- ---- a number in its range is not outside it
 not-less : (l m : ℕ) → leb l m ≡ not (ltb m l)
@@ -220,23 +224,21 @@ module _ (top : ℕ) (few : top ≤ 60) where
     all-same (field {f = amount most} {n = n} {fs = fs} {ns = ns} h hs) e u = one-same (amount most) n fs ns tt e (λ q. all-same hs q u)
 
     -- ---- the line is judged as the one that was read
-    module _ (g : Grammar) (w : Word) {ns : List ℤ} (held : Fields Held (entry w .fields) ns) (in-range : anyOutside (map (askedOf top) (entry w .fields)) ns ≡ false) where
+    module _ (g : Grammar) (fs : List Holds) (make : List ℤ → Line) (names : (ms : List ℤ) → Fields Held fs ms → operands (make ms) ≡ operandsAmong fs ms)
+        {ns : List ℤ} (held : Fields Held fs ns) (in-range : anyOutside (map (askedOf top) fs) ns ≡ false) where
       abbrev hs : List ℤ
-      hs = allHeld (map (askedOf top) (entry w .fields)) ns
+      hs = allHeld (map (askedOf top) fs) ns
 
-      operands-of : {ms : List ℤ} → Fields Held (entry w .fields) ms → operands (lineOf w ms) ≡ operandsAmong (entry w .fields) ms
-      operands-of h = ap (λ (s : Said Word). operandsAmong (entry (s .word) .fields) (s .numbers)) (said-line w h)
-
-      pub judged-same : judgedAs g lines (lineOf w hs) ≡ judgedAs g lines (lineOf w ns)
+      pub judged-same : judgedAs g lines (make hs) ≡ judgedAs g lines (make ns)
       unfolding judgedAs
-      judged-same = go (everyUsable lines (operandsAmong (entry w .fields) ns)) refl
+      judged-same = go (everyUsable lines (operandsAmong fs ns)) refl
         where
-          usable : everyUsable lines (operands (lineOf w hs)) ≡ everyUsable lines (operandsAmong (entry w .fields) ns)
-          usable = ap (everyUsable lines) (operands-of (all-held held in-range)) ∙ usable-as held
+          usable : everyUsable lines (operands (make hs)) ≡ everyUsable lines (operandsAmong fs ns)
+          usable = ap (everyUsable lines) (names hs (all-held held in-range)) ∙ usable-as held
 
-          go : (b : Bool) → everyUsable lines (operandsAmong (entry w .fields) ns) ≡ b → judgedAs g lines (lineOf w hs) ≡ judgedAs g lines (lineOf w ns)
-          go true e = ap (λ (ms : List ℤ). judgedAs g lines (lineOf w ms)) (all-same held in-range (subst T (sym e) tt))
-          go false e = rw (usable, ap (everyUsable lines) (operands-of held), e)
+          go : (b : Bool) → everyUsable lines (operandsAmong fs ns) ≡ b → judgedAs g lines (make hs) ≡ judgedAs g lines (make ns)
+          go true e = ap (λ (ms : List ℤ). judgedAs g lines (make ms)) (all-same held in-range (subst T (sym e) tt))
+          go false e = rw (usable, ap (everyUsable lines) (names ns held), e)
 
 -- ---- the numbers fit a record
 most-at : {fs : List Holds} {ms : List ℤ} → Fields AtMost fs ms → (j : ℕ) → natAbs (getD ms j (pos 0)) ≤ mostOf (getD fs j operand)
@@ -275,56 +277,64 @@ amount-fits : (z : ℤ) → natAbs z ≤ 32767 → SFits w16 z
 amount-fits (pos n) h = record { sfits = omega arith }
 amount-fits (negsuc n) h = record { sfits = omega arith }
 
-module _ (top : ℕ) (few : top ≤ 60) (w : Word) {ns : List ℤ} (held : Fields Held (entry w .fields) ns)
-    (in-range : anyOutside (map (askedOf top) (entry w .fields)) ns ≡ false) where
+-- a rotation's amount is short: a test over the table
+amount-short : (v : ListedWord) → T (sameWord (heldWord v) Rot) → T (leb (mostOf (getD (wordFields v) 1 operand)) 32767)
+amount-short v t = go (sameWord (heldWord v) Rot) t (every-listed (λ u. not (sameWord (heldWord u) Rot) || leb (mostOf (getD (wordFields u) 1 operand)) 32767) tt v)
+  where
+    go : (b : Bool) → T b → T (not b || leb (mostOf (getD (wordFields v) 1 operand)) 32767) → T (leb (mostOf (getD (wordFields v) 1 operand)) 32767)
+    go true u t = t
+    go false u t = absurd u
+
+module _ (top : ℕ) (few : top ≤ 60) (v : ListedWord) {ns : List ℤ} (held : Fields Held (wordFields v) ns)
+    (in-range : anyOutside (map (askedOf top) (wordFields v)) ns ≡ false) where
   abbrev held-numbers : List ℤ
-  held-numbers = allHeld (map (askedOf top) (entry w .fields)) ns
+  held-numbers = allHeld (map (askedOf top) (wordFields v)) ns
 
   abbrev at : ℕ → ℤ
   at j = getD held-numbers j (pos 0)
 
-  most : (j : ℕ) → natAbs (at j) ≤ mostOf (getD (entry w .fields) j operand)
+  most : (j : ℕ) → natAbs (at j) ≤ mostOf (getD (wordFields v) j operand)
   most = most-at (all-most top few held in-range)
 
-  unsigned : (j : ℕ) → T (not (isSigned (getD (entry w .fields) j operand))) → T (nonNeg (at j))
+  unsigned : (j : ℕ) → T (not (isSigned (getD (wordFields v) j operand))) → T (nonNeg (at j))
   unsigned = natural-at (all-held top few held in-range)
 
   -- what each word's fields hold at most: a test over the table
-  short : (j n : ℕ) → T (leb (mostOf (getD (entry w .fields) j operand)) n) → natAbs (at j) ≤ n
-  short j n t = omega (arith, most j, leb→le (mostOf (getD (entry w .fields) j operand)) n t)
+  short : (j n : ℕ) → T (leb (mostOf (getD (wordFields v) j operand)) n) → natAbs (at j) ≤ n
+  short j n t = omega (arith, most j, leb→le (mostOf (getD (wordFields v) j operand)) n t)
 
   pub held-small : (j : ℕ) → Small (at j)
-  held-small j = omega (arith, most j, all-low (entry w .fields) (every-word (λ v. allLow (entry v .fields)) tt w) j)
+  held-small j = omega (arith, most j, all-low (wordFields v) (every-listed (λ u. allLow (wordFields u)) tt v) j)
 
-  pub numbers-fit : NumbersFit w (at 0) (at 1) (at 2)
+  pub numbers-fit : NumbersFit (heldWord v) (at 0) (at 1) (at 2)
   numbers-fit =
       record {
         one =
             record {
-              unsigned = unsigned 0 (every-word (λ v. not (isSigned (getD (entry v .fields) 0 operand))) tt w);
-              constant = λ e. let m = short 0 4294967295 (every-word (λ v. leb (mostOf (getD (entry v .fields) 0 operand)) 4294967295) tt w) in record { fits = omega arith };
+              unsigned = unsigned 0 (every-listed (λ u. not (isSigned (getD (wordFields u) 0 operand))) tt v);
+              constant = λ e. let m = short 0 4294967295 (every-listed (λ u. leb (mostOf (getD (wordFields u) 0 operand)) 4294967295) tt v) in record { fits = omega arith };
               number = λ e.
-                  let m = short 0 65535 (unless (sameWord w Const) (leb (mostOf (getD (entry w .fields) 0 operand)) 65535) e
-                  (every-word (λ v. sameWord v Const || leb (mostOf (getD (entry v .fields) 0 operand)) 65535) tt w)) in
+                  let m = short 0 65535 (unless (sameWord (heldWord v) Const) (leb (mostOf (getD (wordFields v) 0 operand)) 65535) e
+                  (every-listed (λ u. sameWord (heldWord u) Const || leb (mostOf (getD (wordFields u) 0 operand)) 65535) tt v)) in
                   record { fits = omega arith };
             };
         two =
             record {
               amount = λ e.
                   amount-fits (at 1)
-                  (short 1 32767 (subst (λ (v : Word). T (leb (mostOf (getD (entry v .fields) 1 operand)) 32767)) (sym (same-word w Rot (subst T (sym e) tt))) tt));
+                  (short 1 32767 (amount-short v (subst T (sym e) tt)));
               number = λ e.
-                  let m = short 1 65535 (every-word (λ v. leb (mostOf (getD (entry v .fields) 1 operand)) 65535) tt w) in
+                  let m = short 1 65535 (every-listed (λ u. leb (mostOf (getD (wordFields u) 1 operand)) 65535) tt v) in
                   record {
-                    unsigned = unsigned 1 (unless (sameWord w Rot) (not (isSigned (getD (entry w .fields) 1 operand))) e
-                        (every-word (λ v. sameWord v Rot || not (isSigned (getD (entry v .fields) 1 operand))) tt w));
+                    unsigned = unsigned 1 (unless (sameWord (heldWord v) Rot) (not (isSigned (getD (wordFields v) 1 operand))) e
+                        (every-listed (λ u. sameWord (heldWord u) Rot || not (isSigned (getD (wordFields u) 1 operand))) tt v));
                     fits = record { fits = omega arith };
                   };
             };
         three =
-            let m = short 2 65535 (every-word (λ v. leb (mostOf (getD (entry v .fields) 2 operand)) 65535) tt w) in
+            let m = short 2 65535 (every-listed (λ u. leb (mostOf (getD (wordFields u) 2 operand)) 65535) tt v) in
             record {
-              unsigned = unsigned 2 (every-word (λ v. not (isSigned (getD (entry v .fields) 2 operand))) tt w);
+              unsigned = unsigned 2 (every-listed (λ u. not (isSigned (getD (wordFields u) 2 operand))) tt v);
               fits = record { fits = omega arith };
             };
       }

@@ -1,4 +1,6 @@
 pub mod LineLaws
+mod LevelLaws
 mod HeldLaws
+mod AskedLaws
 mod ReadLaws
 mod HeaderLaws

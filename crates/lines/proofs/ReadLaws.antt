@@ -2,47 +2,50 @@
 use Prim.Native.Nat.{ℕ, _+_, _≤_}
 use native.Mathlib.Omega.{arith}
 use mathlib.Core.Path.{_≡_, refl, sym, ap, ap₂, _∙_, subst}
-use mathlib.Core.Bool.{Bool, true, false, not}
+use mathlib.Core.Bool.{Bool, true, false, cond}
 use mathlib.Core.List.{List, [], _∷_, map}
 use mathlib.Core.Option.{Option, none, some}
 use borrow.Author.Needs.{needs}
 use borrow.Author.Tests.{not-true, not-false}
 use lib.Dec.{T, leb, leb→le}
 use lib.IntN.{ℤ, pos}
+use lib.Signed.{nonNeg}
 use lib.ListN.{length, getD, drop, length-drop, length-take}
 use mir.Syntax.{w64}
 use mir.Val.{SFits, toZ, ofZ}
 use mir.ValLaws.{toZ-ofZ}
 use Rattle.fields.specs.Pieces.{Bytes}
-use Rattle.rows.specs.Fields.{allInRange}
-use Rattle.rows.specs.Forms.{Said}
-use Rattle.rows.specs.Rows.{placeOf, refused}
+use Rattle.rows.specs.Fields.{Holds}
+use Rattle.rows.specs.Rows.{placeOf, bad, refused, Tests, judged}
 use Rattle.rows.proofs.FieldLaws.{Held, Fields}
 use Rattle.model.specs.declared.Grammar.{Grammar}
 use Rattle.model.specs.declared.Header.{Header}
 use Rattle.model.specs.declared.Line.{Line}
 use Rattle.model.specs.declared.Word.{Word}
 use Rattle.model.specs.Scales.{headerInRange}
-use Rattle.model.specs.Words.{entry, hasWord}
-use Rattle.model.specs.Files.{lineOf, isWord, inRange}
+use Rattle.model.specs.Words.{hasWord}
+use Rattle.model.specs.Files.{lineOf, isWord}
 use Rattle.model.proofs.Tests.{header-facts}
-use Rattle.model.proofs.EveryWord.{every-word}
-use Rattle.text.proofs.WordLaws.{said-line}
+use Rattle.listings.specs.declared.Levels.{Levels}
+use Rattle.listings.specs.Listings.{Listed, ListedWord, wordFields, listedOf}
 use Rattle.forms.specs.declared.NumbersAt.{NumbersAt}
 use Rattle.forms.specs.declared.NumbersAt.the-variants.{Numbers, NotOfForm, OutOfRange}
 use Rattle.forms.specs.Along.{lineIn, numbersIn}
 use Rattle.forms.specs.Asked.{Asked, askedAt, described, readAs, anyOutside, allHeld, numbersTo}
-use Rattle.forms.proofs.TextLaws.{alike, alike-numbers, small-held, numbers-closed, numbers-held}
+use Rattle.forms.proofs.TextLaws.{alike-numbers, small-held, numbers-closed, numbers-held}
 use Rattle.tables.specs.Records.{linesOf, linesHeld}
-use Rattle.tables.proofs.Words.{line-word}
+use Rattle.words.specs.declared.WordAt.{WordAt}
 use Rattle.words.specs.declared.WordRow.{WordRow}
-use Rattle.words.specs.Words.{rowOf}
+use Rattle.words.specs.Words.{rowOf, heldWord, rowIn, wordFound, listedWord}
 use Rattle.judging.specs.declared.LineRead.{LineRead}
 use Rattle.judging.specs.declared.FormedLine.{FormedLine}
 use Rattle.judging.specs.Judging.{NumbersFit, lineRead, lineTo, judgedAs}
-use Rattle.judging.proofs.JudgeLaws.{line-of-three}
-use Rattle.lines.specs.Lines.{askedBy, wordJudged}
-use Rattle.lines.proofs.HeldLaws.{askedOf, row-asked, all-in, judged-same, numbers-fit, held-small}
+use Rattle.lines.specs.declared.Level.{Level}
+use Rattle.lines.specs.declared.Level.the-variants as Level
+use Rattle.lines.specs.Lines.{heldAs, testedAs, listedTests, turnsLevel, askedBy, levelHeld, wordJudged}
+use Rattle.lines.proofs.HeldLaws.{askedOf, every-listed, judged-same}
+use Rattle.lines.proofs.AskedLaws.{heldLineOf, rangeOf, heldAt, LevelFits, Asking, asking}
+use Rattle.lines.proofs.LineLaws.{tested-word, operand-tests, judged-held}
 
 -- ---- what an answer says: no numbers, one outside its range, or all of them as they are held
 pub data Answered (gs : List Asked) (place end : ℕ) (o : Option (List ℤ)) (r : NumbersAt) : Type 0 where
@@ -106,82 +109,94 @@ module _ {gs : List Asked} {place end : ℕ} {o : Option (List ℤ)} {r : Number
       go (one-outside ns q u a) = absurd (let z : _≡_ {A = ℕ} 0 1 = cc in omega arith)
       go (all-inside ns q u a) = record { given = ns; read = q; inside = u; first = cc; second = cc; third = cc; ends = cc }
 
--- ---- the numbers that a row describes: its least as the machine holds it
-pub as-described : (row : WordRow) (top place end : ℕ) (t : Bytes) → SFits w64 (row .least) → (r : NumbersAt)
-    → (let gs = described (row .fields) (askedAt (row .operands) (toZ w64 (ofZ w64 (row .least))) (row .largest) top) in
-    r ≡ numbersTo gs place end (numbersIn (map readAs gs) t))
-    → r ≡ numbersTo (askedBy row top) place end (numbersIn (map readAs (askedBy row top)) t)
-as-described row top place end t s r q =
+-- ---- the numbers that a row describes, its least as the machine holds it
+abbrev machine : ℤ → ℤ
+machine z = toZ w64 (ofZ w64 z)
+
+pub as-described : (turns : Bool) (row : WordRow) (top place end : ℕ) (t : Bytes) → SFits w64 (row .least) → (least : ℤ) → SFits w64 least
+    → least ≡ cond turns (pos 0) (machine (row .least)) → (r : NumbersAt)
+    → (let gs = described (row .fields) (askedAt (row .operands) (machine least) (row .largest) top) in r ≡ numbersTo gs place end (numbersIn (map readAs gs) t))
+    → r ≡ numbersTo (askedBy turns row top) place end (numbersIn (map readAs (askedBy turns row top)) t)
+as-described turns row top place end t s least f is r q =
     subst
     (λ (z : ℤ). let gs = described (row .fields) (askedAt (row .operands) z (row .largest) top) in r ≡ numbersTo gs place end (numbersIn (map readAs gs) t))
-    (toZ-ofZ w64 (row .least) s) q
+    (toZ-ofZ w64 least f ∙ is ∙ ap (cond turns (pos 0)) (toZ-ofZ w64 (row .least) s)) q
 
 pub ruleset row-laws = (needs, as-described)
 
 -- ---- the line of a word
 -- no word has more than three fields
-pub three-fields : (w : Word) (row : WordRow) → row ≡ rowOf w → row .fields ≤ 3
-three-fields w row q =
-    let few = leb→le (length (entry w .fields)) 3 (every-word (λ v. leb (length (entry v .fields)) 3) tt w) in
-    omega (arith, ap (λ (v : WordRow). v .fields) q)
+pub three-fields : (found : WordAt) → found ≡ wordFound (listedWord found) (found .end) → found .row .fields ≤ 3
+three-fields found q =
+    let v = listedWord found in
+    let few = leb→le (length (wordFields v)) 3 (every-listed (λ u. leb (length (wordFields u)) 3) tt v) in
+    omega (arith, ap (λ (f : WordAt). f .row .fields) q)
 
-abbrev machine : ℤ → ℤ
-machine z = toZ w64 (ofZ w64 z)
+module _ (levels : Levels) (h : Header) (found : WordAt) (is-found : found ≡ wordFound (listedWord found) (found .end)) (n : ℕ) (s : Bytes) where
+  abbrev v : ListedWord
+  v = listedWord found
 
-module _ (g : Grammar) (h : Header) (lines : List Line) (w : Word) (n start : ℕ) (s : Bytes) where
-  pub no-word : (t : Bool) → t ≡ hasWord g w → t ≡ false
-      → refused 1 (n + 2) ≡ lineTo (placeOf n) (start + length (lineIn (drop start s)) + 1) (wordJudged g h lines w (drop start s))
-  unfolding wordJudged
-  no-word t q e = rw (← q, e)
+  abbrev rest : Bytes
+  rest = drop (found .end) s
 
-module _ (h : Header) (w : Word) (n start : ℕ) (s : Bytes) (row : WordRow) (qr : row ≡ rowOf w) (r : NumbersAt)
-    (q : r ≡ numbersTo (askedBy row (h .top)) (n + 2) (start + length (lineIn (drop start s))) (numbersIn (map readAs (askedBy row (h .top))) (drop start s))) where
   abbrev end : ℕ
-  end = start + length (lineIn (drop start s))
+  end = found .end + length (lineIn rest)
 
-  -- what is asked of the word's fields
-  abbrev gs : List Asked
-  gs = map (askedOf (h .top)) (entry w .fields)
+  held-as : found .word ≡ heldWord v
+  held-as = ap (λ (f : WordAt). f .word) is-found
 
-  described-so : askedBy row (h .top) ≡ gs
-  described-so = ap (λ (v : WordRow). askedBy v (h .top)) qr ∙ row-asked (h .top) w
+  pub no-word : (g : Grammar) (lines : List Line) (t : Bool) → t ≡ hasWord g (found .word) → t ≡ false
+      → refused 1 (n + 2) ≡ lineTo (placeOf n) (end + 1) (wordJudged levels g h lines v rest)
+  unfolding wordJudged
+  no-word g lines t q e = let lacks : hasWord g (heldWord v) ≡ false = ap (hasWord g) (sym held-as) ∙ sym q ∙ e in rw lacks
 
-  -- by which they are read as by their description
-  read-alike : numbersIn (map readAs gs) (drop start s) ≡ numbersIn (entry w .fields) (drop start s)
-  unfolding alike
-  read-alike =
-      sym (alike-numbers (entry w .fields) (map readAs gs) (drop start s)
-      (every-word (λ v. alike (entry v .fields) (map readAs (map (askedOf (h .top)) (entry v .fields)))) tt w))
+  module _ (turns : Bool) (is-turned : turns ≡ turnsLevel levels (found .row .fields)) (header : T (headerInRange h)) (r : NumbersAt)
+      (q : r ≡ numbersTo (askedBy turns (found .row) (h .top)) (n + 2) end (numbersIn (map readAs (askedBy turns (found .row) (h .top))) rest)) where
+    few : h .top ≤ 60
+    few = header-facts h header .top .most
 
-  answer : Answered gs (n + 2) end (numbersIn (entry w .fields) (drop start s)) r
-  answer =
-      answered gs (n + 2) end (numbersIn (entry w .fields) (drop start s)) r
-      (q ∙ ap (λ (fs : List Asked). numbersTo fs (n + 2) end (numbersIn (map readAs fs) (drop start s))) described-so ∙ ap (numbersTo gs (n + 2) end) read-alike)
+    -- what is asked of the word's fields
+    asks : Asking levels h v
+    asks = asking levels h few v
 
-  -- the numbers that are told, each as it is held
-  module _ (x y z : ℤ) (e : ℕ) (is : r ≡ Numbers x y z e) where
-    numbers-told : Told gs (numbersIn (entry w .fields) (drop start s)) end x y z e
-    numbers-told = told answer is
+    abbrev fs : List Holds
+    fs = asks .fields
 
-    pub past-within : e + 1 ≤ length s
-    past-within = omega (arith, length-drop start s, numbers-told .ends, numbers-closed (entry w .fields) (drop start s) (numbers-told .read))
+    abbrev gs : List Asked
+    gs = map (askedOf (h .top)) fs
 
-    given-held : Fields Held (entry w .fields) (numbers-told .given)
-    given-held = numbers-held (entry w .fields) (drop start s) (numbers-told .read)
+    turns-so : turns ≡ turnsLevel levels (rowIn v .fields)
+    turns-so = is-turned ∙ ap (λ (f : WordAt). turnsLevel levels (f .row .fields)) is-found
 
-    -- the line that is judged, as the machine holds its numbers
-    abbrev formed : FormedLine
-    formed = record { word = w; asks = row .asks; first = machine x; second = machine y; third = machine z; end = e + 1 }
+    described-so : askedBy turns (found .row) (h .top) ≡ gs
+    described-so = ap₂ (λ (b : Bool) (f : WordAt). askedBy b (f .row) (h .top)) turns-so is-found ∙ asks .asked
 
-    module _ (header : T (headerInRange h)) where
-      few : h .top ≤ 60
-      few = header-facts h header .top .most
+    -- by which they are read as by their description
+    answer : Answered gs (n + 2) end (numbersIn (wordFields v) rest) r
+    answer =
+        answered gs (n + 2) end (numbersIn (wordFields v) rest) r
+        (q ∙ ap (λ (as′ : List Asked). numbersTo as′ (n + 2) end (numbersIn (map readAs as′) rest)) described-so
+        ∙ ap (numbersTo gs (n + 2) end) (sym (alike-numbers (wordFields v) (map readAs gs) rest (asks .read-so))))
+
+    held-so : (ns : List ℤ) → numbersIn (wordFields v) rest ≡ some ns → Fields Held fs ns
+    held-so ns read = numbers-held fs rest (sym (alike-numbers (wordFields v) fs rest (asks .same)) ∙ read)
+
+    -- the numbers that are told, each as it is held
+    module _ (x y z : ℤ) (e : ℕ) (is : r ≡ Numbers x y z e) where
+      numbers-told : Told gs (numbersIn (wordFields v) rest) end x y z e
+      numbers-told = told answer is
+
+      pub past-within : e + 1 ≤ length s
+      past-within = omega (arith, length-drop (found .end) s, numbers-told .ends, numbers-closed (wordFields v) rest (numbers-told .read))
+
+      given-held : Fields Held fs (numbers-told .given)
+      given-held = held-so (numbers-told .given) (numbers-told .read)
 
       abbrev at : ℕ → ℤ
-      at j = getD (allHeld gs (numbers-told .given)) j (pos 0)
+      at j = heldAt h fs (numbers-told .given) j
 
       as-held : (u : ℤ) (j : ℕ) → u ≡ at j → machine u ≡ at j
-      as-held u j e = ap machine e ∙ small-held (at j) (held-small (h .top) few w given-held (numbers-told .inside) j)
+      as-held u j e = ap machine e ∙ small-held (at j) (asks .smalls (numbers-told .given) given-held (numbers-told .inside) j)
 
       first-is : machine x ≡ at 0
       first-is = as-held x 0 (numbers-told .first)
@@ -192,62 +207,99 @@ module _ (h : Header) (w : Word) (n start : ℕ) (s : Bytes) (row : WordRow) (qr
       third-is : machine z ≡ at 2
       third-is = as-held z 2 (numbers-told .third)
 
-      pub line-fits : (line : FormedLine) → line ≡ formed → NumbersFit (line .word) (line .first) (line .second) (line .third)
-      line-fits line made =
-          subst (λ (l : FormedLine). NumbersFit (l .word) (l .first) (l .second) (l .third)) (sym made)
-          (subst (λ (u : ℤ). NumbersFit w u (machine y) (machine z)) (sym first-is)
-          (subst (λ (u : ℤ). NumbersFit w (at 0) u (machine z)) (sym second-is)
-          (subst (λ (u : ℤ). NumbersFit w (at 0) (at 1) u) (sym third-is) (numbers-fit (h .top) few w given-held (numbers-told .inside)))))
+      pub level-unsigned : turns ≡ true → T (nonNeg (machine z))
+      level-unsigned t = subst (λ (u : ℤ). T (nonNeg u)) (sym third-is) (asks .unsigned (sym turns-so ∙ t) (numbers-told .given) given-held (numbers-told .inside))
 
-  module _ (g : Grammar) (lines : List Line) (t : Bool) (k : t ≡ hasWord g w) (has : t ≡ true) where
-    pub no-form : (m p : ℕ) → r ≡ NotOfForm m p → refused m p ≡ lineTo (placeOf n) (end + 1) (wordJudged g h lines w (drop start s))
-    unfolding wordJudged
-    no-form m p is = let nothing = not-told answer is in rw (nothing .number, nothing .where-it-is, ← k, has, nothing .nothing)
+      module _ (level : Level) (turned : level ≡ levelHeld turns (h .top) (machine y) (machine z)) where
+        turned-so : levelHeld (turnsLevel levels (rowIn v .fields)) (h .top) (at 1) (at 2) ≡ level
+        turned-so = sym (turned ∙ (λ i. levelHeld (turns-so i) (h .top) (second-is i) (third-is i)))
 
-    -- a line that was read is one of the file's, and in its ranges if no number is outside them
-    module _ (ns : List ℤ) (read : numbersIn (entry w .fields) (drop start s) ≡ some ns) where
-      held : Fields Held (entry w .fields) ns
-      held = numbers-held (entry w .fields) (drop start s) read
+        low : level ≡ Level.Outside → rangeOf levels h v (numbers-told .given) ≡ false
+        low q = asks .too-low (numbers-told .given) given-held (numbers-told .inside) (turned-so ∙ q)
 
-      is-word : isWord g (lineOf w ns) ≡ true
-      is-word = ap (hasWord g) (line-word w ns) ∙ sym k ∙ has
+        module _ (u : ℤ) (held : level ≡ Level.Held u) where
+          fits : LevelFits levels h v fs (numbers-told .given) u
+          fits = asks .level-held (numbers-told .given) given-held (numbers-told .inside) u (turned-so ∙ held)
 
-      range : inRange h (lineOf w ns) ≡ not (anyOutside gs ns)
-      range = ap (λ (x : Said Word). allInRange (h .top) (entry (x .word) .fields) (x .numbers)) (said-line w held) ∙ all-in (h .top) held
+          level-is : machine u ≡ u
+          level-is = small-held u (fits .small)
 
-      word-judged : anyOutside gs ns ≡ false → wordJudged g h lines w (drop start s) ≡ judgedAs g lines (lineOf w ns)
-      unfolding wordJudged judgedAs
-      word-judged e = rw (← k, has, read, is-word, range, e)
+          -- the line that is judged, as the machine holds its numbers
+          pub line-fits : (line : FormedLine) → line ≡ record { word = found .word; asks = found .row .asks; first = machine x; second = machine y; third = machine u; end = e + 1 }
+              → NumbersFit (line .word) (line .first) (line .second) (line .third)
+          line-fits line made =
+              subst (λ (l : FormedLine). NumbersFit (l .word) (l .first) (l .second) (l .third)) (sym made)
+              (subst (λ (w : Word). NumbersFit w (machine x) (machine y) (machine u)) (sym held-as)
+              (subst (λ (k : ℤ). NumbersFit (heldWord v) k (machine y) (machine u)) (sym first-is)
+              (subst (λ (k : ℤ). NumbersFit (heldWord v) (at 0) k (machine u)) (sym second-is)
+              (subst (λ (k : ℤ). NumbersFit (heldWord v) (at 0) (at 1) k) (sym level-is) (fits .fit)))))
 
-    pub out-of-range : r ≡ OutOfRange → refused 11 (n + 2) ≡ lineTo (placeOf n) (end + 1) (wordJudged g h lines w (drop start s))
-    unfolding wordJudged
-    out-of-range is = let o = told-outside answer is in rw (← k, has, o .read, is-word (o .given) (o .read), range (o .given) (o .read), o .outside)
+    module _ (g : Grammar) (lines : List Line) (t : Bool) (k : t ≡ hasWord g (found .word)) (has : t ≡ true) where
+      has-word : hasWord g (heldWord v) ≡ true
+      has-word = ap (hasWord g) (sym held-as) ∙ sym k ∙ has
 
-    pub line-judged :
-        (x y z : ℤ) (e : ℕ) → r ≡ Numbers x y z e → T (headerInRange h) → length lines ≤ 1792 →
-        (line : FormedLine) → line ≡ record { word = w; asks = row .asks; first = machine x; second = machine y; third = machine z; end = e + 1 } → (a : LineRead) →
-        lineRead (line .word) a ≡ lineTo (placeOf n) (line .end) (judgedAs g lines (lineOf (line .word) (line .first ∷ line .second ∷ line .third ∷ []))) →
-        lineRead w a ≡ lineTo (placeOf n) (end + 1) (wordJudged g h lines w (drop start s))
-    line-judged x y z e is header short line made a j =
-        let numbers = numbers-told x y z e is in
-        let hs = allHeld gs (numbers .given) in
-        subst
-        (λ (l : FormedLine). lineRead (l .word) a ≡ lineTo (placeOf n) (l .end) (judgedAs g lines (lineOf (l .word) (l .first ∷ l .second ∷ l .third ∷ []))))
-        made j
-        ∙ ap₂ (λ (m : ℕ) (v : Line). lineTo (placeOf n) (m + 1) (judgedAs g lines v)) (numbers .ends)
-        (line-of-three w hs (first-is x y z e is header) (second-is x y z e is header) (third-is x y z e is header))
-        ∙ ap (lineTo (placeOf n) (end + 1))
-        (judged-same (h .top) (few x y z e is header) lines short g w (given-held x y z e is) (numbers .inside)
-        ∙ sym (word-judged (numbers .given) (numbers .read) (numbers .inside)))
+      pub no-form : (m p : ℕ) → r ≡ NotOfForm m p → refused m p ≡ lineTo (placeOf n) (end + 1) (wordJudged levels g h lines v rest)
+      unfolding wordJudged
+      no-form m p is = let nothing = not-told answer is in rw (nothing .number, nothing .where-it-is, has-word, nothing .nothing)
+
+      -- a line that was read is one of the file's
+      module _ (ns : List ℤ) (read : numbersIn (wordFields v) rest ≡ some ns) where
+        abbrev x : Listed
+        x = listedOf v ns
+
+        is-word : isWord g (testedAs levels h x) ≡ true
+        is-word = ap (hasWord g) (tested-word levels h v ns) ∙ has-word
+
+        tested : wordJudged levels g h lines v rest ≡ judged (listedTests levels g h lines x) (heldAs levels h x)
+        unfolding wordJudged
+        tested = rw (has-word, read) (judged-held levels h (listedTests levels g h lines x) x)
+
+        out : rangeOf levels h v ns ≡ false → wordJudged levels g h lines v rest ≡ bad 11
+        out e = tested ∙ rw (is-word, e)
+
+        word-judged : rangeOf levels h v ns ≡ true → wordJudged levels g h lines v rest ≡ judgedAs g lines (heldAs levels h x)
+        unfolding judgedAs
+        word-judged e = tested ∙ rw (is-word, e) (ap (λ (ts : Tests). judged ts (heldAs levels h x)) (operand-tests levels g h lines x))
+
+      pub out-of-range : r ≡ OutOfRange → refused 11 (n + 2) ≡ lineTo (placeOf n) (end + 1) (wordJudged levels g h lines v rest)
+      out-of-range is =
+          let o = told-outside answer is in
+          sym (ap (lineTo (placeOf n) (end + 1)) (out (o .given) (o .read) (asks .outside (o .given) (held-so (o .given) (o .read)) (o .outside))))
+
+      module _ (x y z : ℤ) (e : ℕ) (is : r ≡ Numbers x y z e) (level : Level) (turned : level ≡ levelHeld turns (h .top) (machine y) (machine z)) where
+        abbrev numbers : Told gs (numbersIn (wordFields v) rest) end x y z e
+        numbers = numbers-told x y z e is
+
+        pub level-outside : level ≡ Level.Outside → refused 11 (n + 2) ≡ lineTo (placeOf n) (end + 1) (wordJudged levels g h lines v rest)
+        level-outside o = sym (ap (lineTo (placeOf n) (end + 1)) (out (numbers .given) (numbers .read) (low x y z e is level turned o)))
+
+        pub line-judged :
+            (u : ℤ) → level ≡ Level.Held u → length lines ≤ 1792 →
+            (line : FormedLine) →
+            line ≡ record { word = found .word; asks = found .row .asks; first = machine x; second = machine y; third = machine u; end = e + 1 } → (a : LineRead) →
+            lineRead (line .word) a ≡ lineTo (placeOf n) (line .end) (judgedAs g lines (lineOf (line .word) (line .first ∷ line .second ∷ line .third ∷ []))) →
+            lineRead (found .word) a ≡ lineTo (placeOf n) (end + 1) (wordJudged levels g h lines v rest)
+        line-judged u held short line made a j =
+            let level-fits = fits x y z e is level turned u held in
+            subst
+            (λ (l : FormedLine). lineRead (l .word) a ≡ lineTo (placeOf n) (l .end) (judgedAs g lines (lineOf (l .word) (l .first ∷ l .second ∷ l .third ∷ []))))
+            made j
+            ∙ ap₂ (λ (m : ℕ) (l : Line). lineTo (placeOf n) (m + 1) (judgedAs g lines l)) (numbers .ends)
+            ((λ i. lineOf (held-as i) (first-is x y z e is i ∷ second-is x y z e is i ∷ level-is x y z e is level turned u held i ∷ [])) ∙ level-fits .line)
+            ∙ ap (lineTo (placeOf n) (end + 1))
+            (judged-same (h .top) few lines short g fs (heldLineOf levels h v) (asks .names) (given-held x y z e is) (numbers .inside)
+            ∙ sym (word-judged (numbers .given) (numbers .read) (level-fits .ranged)))
 
 pub held-few : (records : List (List ℕ)) (count : ℕ) → count ≤ 1792 → length (linesHeld records count) ≤ 1792
 held-few records count few = omega (arith, length-take count (linesOf records))
 
 -- what is known of the word is known of the line
-module _ (w : Word) (row : WordRow) (x y z : ℤ) (e : ℕ) (line : FormedLine)
-    (made : line ≡ record { word = w; asks = row .asks; first = x; second = y; third = z; end = e }) where
-  pub line-asks : row ≡ rowOf w → line .asks ≡ rowOf (line .word) .asks
-  line-asks q =
-      ap (λ (l : FormedLine). l .asks) made ∙ ap (λ (v : WordRow). v .asks) q ∙ ap (λ (l : FormedLine). rowOf (l .word) .asks) (sym made)
+module _ (found : WordAt) (is-found : found ≡ wordFound (listedWord found) (found .end)) (x y z : ℤ) (e : ℕ) (line : FormedLine)
+    (made : line ≡ record { word = found .word; asks = found .row .asks; first = x; second = y; third = z; end = e }) where
+  pub line-asks : line .asks ≡ rowOf (line .word) .asks
+  line-asks =
+      ap (λ (l : FormedLine). l .asks) made ∙ ap (λ (f : WordAt). f .row .asks) is-found
+      ∙ sym (ap (λ (l : FormedLine). rowOf (l .word) .asks) made ∙ ap (λ (f : WordAt). rowOf (f .word) .asks) is-found)
 
-pub ruleset line-laws = (needs, not-true, not-false, three-fields, no-word, no-form, out-of-range, line-fits, line-judged, held-few, line-asks)
+pub ruleset line-laws =
+    (needs, not-true, not-false, three-fields, no-word, no-form, out-of-range, level-unsigned, level-outside, line-fits, line-judged, held-few, line-asks)

@@ -4,6 +4,7 @@ pub mod headers;
 
 use forms::NumbersAt;
 use judging::LineRead;
+use listings::Levels;
 use model::Grammar;
 use model::Header;
 use tables::Record;
@@ -12,21 +13,51 @@ use words::WordRow;
 ghost use mathlib.Core.Path.{_≡_};
 ghost use mathlib.Core.List.{map};
 ghost use Prim.Native.Nat.{_+_, _≤_};
+ghost use mathlib.Core.Bool.{true, cond};
 ghost use lib.Dec.{T};
+ghost use lib.IntN.{pos};
+ghost use lib.Signed.{nonNeg};
 ghost use lib.ListN.{length, drop};
 ghost use Rattle.rows.specs.Rows.{placeOf};
 ghost use Rattle.model.specs.Scales.{headerInRange};
 ghost use Rattle.forms.specs.Along.{lineIn, numbersIn};
 ghost use Rattle.forms.specs.Asked.{readAs, numbersTo};
 ghost use Rattle.tables.specs.Records.{linesHeld};
-ghost use Rattle.words.specs.Words.{rowOf};
+ghost use Rattle.words.specs.Words.{wordFound, listedWord};
 ghost use Rattle.judging.specs.Judging.{lineRead, lineTo};
-ghost use Rattle.lines.specs.Lines.{askedBy, wordJudged};
+ghost use Rattle.lines.specs.Lines.{turnsLevel, askedBy, levelHeld, wordJudged};
+
+// Whether a line with so many fields has a level that is counted up: of a listing's words only `enc` has three.
+fn turns_level(levels: Levels, fields: usize) -> bool
+    ensures { λ r. ⌜ r ≡ turnsLevel levels fields ⌝ }
+{
+    match levels {
+        Levels::Falling => false,
+        Levels::Rising => fields == 3,
+    }
+}
+
+// The least that such a line's numbers are read with: a level that is counted up may be 0.
+fn least_of(turns: bool, least: i64) -> i64
+    ensures { λ r. ⌜ r ≡ cond turns (pos 0) least ⌝ }
+{
+    if turns {
+        return 0;
+    }
+    least
+}
 
 // The numbers of the fields that a word's row describes, in a file with this top level.
-fn numbers_of(place: u32, text: &[u8], start: usize, row: WordRow, top: u32) -> NumbersAt
+fn numbers_of(
+    place: u32,
+    text: &[u8],
+    start: usize,
+    row: WordRow,
+    turns: bool,
+    top: u32,
+) -> NumbersAt
     requires { ⌜ row .fields ≤ 3 ⌝ }
-    ensures { λ r. ⌜ r ≡ numbersTo (askedBy row top) place (start + length (lineIn (drop start (now (text .entry))))) (numbersIn (map readAs (askedBy row top)) (drop start (now (text .entry)))) ⌝ }
+    ensures { λ r. ⌜ r ≡ numbersTo (askedBy turns row top) place (start + length (lineIn (drop start (now (text .entry))))) (numbersIn (map readAs (askedBy turns row top)) (drop start (now (text .entry)))) ⌝ }
 {
     forms::numbers_at(
         place,
@@ -34,14 +65,38 @@ fn numbers_of(place: u32, text: &[u8], start: usize, row: WordRow, top: u32) -> 
         start,
         row.fields,
         row.operands,
-        row.least,
+        least_of(turns, row.least),
         row.largest,
         top,
     )
 }
 
-// One line, after those of the first `count` records, by the word that it begins with.
+// A line's third number as its record holds it, a level counted down; or the scale before it or the level is outside its range.
+pub enum Level {
+    Held(i64),
+    Outside,
+}
+
+fn level_held(turns: bool, top: u32, second: i64, third: i64) -> Level
+    requires { ⌜ (turns ≡ true → T (nonNeg third)) ⌝ }
+    ensures { λ r. ⌜ r ≡ levelHeld turns top second third ⌝ }
+{
+    if !turns {
+        return Level::Held(third);
+    }
+    let level = (top as i64) - third;
+    if second < 1 {
+        return Level::Outside;
+    }
+    if level < 1 {
+        return Level::Outside;
+    }
+    Level::Held(level)
+}
+
+// One line, after those of the first `count` records, by the word that it begins with, in a file that counts levels so.
 pub fn read_line(
+    levels: Levels,
     grammar: Grammar,
     header: Header,
     records: &[Record],
@@ -52,8 +107,8 @@ pub fn read_line(
     requires { ⌜ T (headerInRange header) ⌝ }
     requires { ⌜ count ≤ length (now records) ⌝ }
     requires { ⌜ count ≤ 1792 ⌝ }
-    requires { ⌜ found .row ≡ rowOf (found .word) ⌝ }
-    ensures { λ r. ⌜ lineRead (found .word) r ≡ lineTo (placeOf count) (found .end + length (lineIn (drop (found .end) (now (text .entry)))) + 1) (wordJudged grammar header (linesHeld (now (records .entry)) count) (found .word) (drop (found .end) (now (text .entry)))) ⌝ }
+    requires { ⌜ found ≡ wordFound (listedWord found) (found .end) ⌝ }
+    ensures { λ r. ⌜ lineRead (found .word) r ≡ lineTo (placeOf count) (found .end + length (lineIn (drop (found .end) (now (text .entry)))) + 1) (wordJudged levels grammar header (linesHeld (now (records .entry)) count) (listedWord found) (drop (found .end) (now (text .entry)))) ⌝ }
 {
     let place = (count as u32) + 2;
     let word = found.word;
@@ -62,7 +117,8 @@ pub fn read_line(
     }
     let row = found.row;
     let asks = row.asks;
-    match numbers_of(place, text, found.end, row, header.top) {
+    let turns = turns_level(levels, row.fields);
+    match numbers_of(place, text, found.end, row, turns, header.top) {
         NumbersAt::NotOfForm { number, place } => LineRead::Bad { number, place },
         NumbersAt::OutOfRange => LineRead::Bad { number: 11, place },
         NumbersAt::Numbers {
@@ -71,7 +127,10 @@ pub fn read_line(
             third,
             end,
         } => {
-            let line = judging::formed(word, asks, first, second, third, end + 1);
+            let Level::Held(level) = level_held(turns, header.top, second, third) else {
+                return LineRead::Bad { number: 11, place };
+            };
+            let line = judging::formed(word, asks, first, second, level, end + 1);
             judging::judge(grammar, records, count, line)
         }
     }

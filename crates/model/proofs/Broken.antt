@@ -32,11 +32,11 @@ use Rattle.model.proofs.Formed.{well-lines, well-take, formed-index, On
 use Rattle.model.proofs.Checked.{Agrees, on-bare, on-operand, on-operands, keeps-agrees}
 
 -- ---- outcomes of tests
-is-true : (b : Bool) → T b → b ≡ true
+pub is-true : (b : Bool) → T b → b ≡ true
 is-true true t = refl
 is-true false t = absurd t
 
-is-false : (b : Bool) → T (not b) → b ≡ false
+pub is-false : (b : Bool) → T (not b) → b ≡ false
 is-false true t = absurd t
 is-false false t = refl
 
@@ -45,7 +45,7 @@ same m n e = is-true (eqb m n) (eq-passes m n e)
 
 -- ---- one line
 -- any value will do
-abbrev Any : Found → Type 0
+abbrev pub Any : Found → Type 0
 Any v = Unit {0}
 
 -- the tests before those of the bounds are passed
@@ -62,7 +62,7 @@ bounded-says h x tests make s l e =
     ten p = simp p
 
 module _ (h : Header) (scale level : ℕ → ℕ) where
-  abbrev Says : Line → ℕ → Type 0
+  abbrev pub Says : Line → ℕ → Type 0
   Says x n = judged (ruleTests h scale level x) x ≡ bad n
 
   -- within the bounds of the line's rule, or the number of the test that fails
@@ -74,7 +74,7 @@ module _ (h : Header) (scale level : ℕ → ℕ) where
       → OnOperand (Says x) (Agrees h scale level) Any a Ciphertext (onCiphertext (λ u w. bounded h Founds.Ciphertext (s u) (l w)))
   one x a s l e = on-operand h scale level (Says x) Any a (λ u w. bounded h Founds.Ciphertext (s u) (l w)) (λ b. within x Founds.Ciphertext (s (scale a)) (l (level a)) e)
 
-  says : (x : Line) → T (isWord Schedule x) → DutyFor (checkMachine h) (Says x) (Agrees h scale level) Any Schedule x
+  pub says : (x : Line) → T (isWord Schedule x) → DutyFor (checkMachine h) (Says x) (Agrees h scale level) Any Schedule x
   says In w = λ k. within In Founds.Ciphertext (pos (h .waterline)) (pos (h .top)) refl
   says (Const k) w = tt
   says (Neg a) w = one (Neg a) a (λ s. pos s) (λ l. pos l) refl

@@ -105,7 +105,7 @@ alike m n e t = T-not (eqb m n) t (eq-passes m n e)
 pub taken : (a b : ℕ) → negative (pos a -ℤ pos b) ≡ 0 → positive (pos a -ℤ pos b) + b ≡ a
 taken a b z = omega (arith, parts- (pos a) (pos b))
 
-left-over : (a b c : ℕ) → c + b ≡ a → pos a -ℤ pos b ≡ pos c
+pub left-over : (a b c : ℕ) → c + b ≡ a → pos a -ℤ pos b ≡ pos c
 left-over a b c e = ≡-goal (pos a -ℤ pos b) (pos c) (omega (arith, parts- (pos a) (pos b)))
 
 -- ---- a check that finished: each line keeps its rule
@@ -145,7 +145,7 @@ module _ (h : Header) (in-range : T (headerInRange h)) (found : List Found) (i :
         (λ v p q. one x b (onPair f v)
         (λ w r u. on-pair AnyReason (Ruled h found i x) f v w (λ t. tt) (k (scaleOf v) (levelOf v) (scaleOf w) (levelOf w) p q r u)))
 
-    ruled : (x : Line) → Outcome AnyReason (Ruled h found i x) (step (checkMachine h) ins held x)
+    pub ruled : (x : Line) → Outcome AnyReason (Ruled h found i x) (step (checkMachine h) ins held x)
     ruled In = bounded-ruled In (pos (h .waterline)) (pos (h .top)) (λ t p q. (p, q))
     ruled (Const k) = record { in-bounds = tt; bounds = λ c. absurd c; rule = λ p q. tt }
     ruled (Neg a) = unary (Neg a) a (λ s l. pos s) (λ s l. pos l) (λ s l p q t r u. omega arith)
@@ -215,7 +215,7 @@ module _ (h : Header) (scale level : ℕ → ℕ) where
     pub bounds : T (isCiphertext k || isEncoded k) → Bounds h (scale a) (level a)
 
   -- both of a pair have numbers
-  pair-numbers : (j k : Kind) → T (isPair Schedule j k) → T (isCiphertext j || isEncoded j) × T (isCiphertext k || isEncoded k)
+  pub pair-numbers : (j k : Kind) → T (isPair Schedule j k) → T (isCiphertext j || isEncoded j) × T (isCiphertext k || isEncoded k)
   pair-numbers j k t = or-cases (isCiphertext j && (isCiphertext k || isEncoded k)) (isEncoded j && isCiphertext k) t
       (λ p. (or-first (isCiphertext j) (isEncoded j) (and-first (isCiphertext j) (isCiphertext k || isEncoded k) p), and-second (isCiphertext j) (isCiphertext k || isEncoded k) p))
       (λ p. (
@@ -256,7 +256,7 @@ module _ (h : Header) (scale level : ℕ → ℕ) where
         → OnTwo NoReason Agrees Schedule i x a b (onPair f)
     on-two x a b f r = on-operands NoReason (Holds x) a b f r
 
-    duty : (x : Line) → T (isWord Schedule x) → Rule h scale level i x → (T (hasScale x) → Bounds h (scale i) (level i)) → Duty (checkMachine h) NoReason Agrees Schedule i x
+    pub duty : (x : Line) → T (isWord Schedule x) → Rule h scale level i x → (T (hasScale x) → Bounds h (scale i) (level i)) → Duty (checkMachine h) NoReason Agrees Schedule i x
     duty In w r b = λ k. settled (Holds In) Founds.Ciphertext (pos (h .waterline)) (pos (h .top)) (ap pos (sym (r .0))) (ap pos (sym (r .1))) (b tt) (λ u. is-found (b tt))
     duty (Const k) w r b = λ u. record { kind = refl; scale-is = λ t. absurd t; level-is = λ t. absurd t; bounds = λ t. absurd t }
     duty (Neg a) w r b = on-one (Neg a) a (λ s l. pos s) (λ s l. pos l) (ap pos (sym (r .0))) (ap pos (sym (r .1))) (λ c. b tt) (λ c u. is-found c)
@@ -296,7 +296,7 @@ pub keeps-checked : (h : Header) (s : List Line) → T (wellFormed Schedule h s)
 keeps-checked h s t k = let r = keeps-agrees h s t k in (r .0, r .1)
 
 -- ---- the verdict
-answer-done : (r : Run Found ℕ) → elim r [ finished found ↦ Done | stopped i n ↦ Refused n (placeOf i) ] ≡ Done → (found : List Found) × (r ≡ finished found)
+pub answer-done : (r : Run Found ℕ) → elim r [ finished found ↦ Done | stopped i n ↦ Refused n (placeOf i) ] ≡ Done → (found : List Found) × (r ≡ finished found)
 answer-done (finished found) e = (found, refl)
 answer-done (stopped i n) e = absurd (let z : _≡_ {A = ℕ} 0 1 = cc in omega arith)
 

@@ -189,7 +189,7 @@ module _ {X E : Type 0} (M : Machine X E) (A : E → Type 0) (Fits : ℕ → Kin
       formed-step ins (Us a b) l d = one a Ciphertext (λ v. M .us v b) (l .usable) (is-ciphertext (kindAt before a) (l .kinds)) d
       formed-step ins Free l d = d
 
-    one-more : (x : Line) (v : X) → Result Fits (length before) x v → Matched Fits (before ++ (x ∷ [])) (held ++ (v ∷ []))
+    pub one-more : (x : Line) (v : X) → Result Fits (length before) x v → Matched Fits (before ++ (x ∷ [])) (held ++ (v ∷ []))
     one-more x v r =
         record {
           long = length-snoc held v ∙ ap suc (m .long) ∙ sym (length-snoc before x);

@@ -1,5 +1,4 @@
 // Plan and least level, from the bytes of a circuit to the reply. The text layer is used by its contracts alone.
-use model::Grammar;
 use plantable::Planned;
 use reader::FileRead;
 use services::Reply;
@@ -19,7 +18,7 @@ pub fn plan(circuit: &[u8], out: &mut [u8]) -> Reply
             match plantable::plan_table(header, &records, count, &mut schedule) {
                 Planned::TooFew { line } => replies::refusal(6, 1, line + 2),
                 Planned::Lines(length) => {
-                    replies::lend(out, Grammar::Schedule, header, &schedule, length)
+                    replies::lend(out, b"schedule", header, &schedule, length)
                 }
             }
         }

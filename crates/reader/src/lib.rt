@@ -1,6 +1,7 @@
 // Reads a text into a table in one pass: the header line, then one line after another until the first that is refused.
 use judging::LineRead;
 use lines::headers::HeaderRead;
+use listings::Levels;
 use model::Grammar;
 use model::Header;
 use model::Word;
@@ -16,8 +17,10 @@ ghost use Rattle.model.specs.declared.Grammar.the-variants.{Circuit};
 ghost use Rattle.model.specs.Scales.{headerInRange};
 ghost use Rattle.model.specs.Words.{hasWord};
 ghost use Rattle.text.specs.Files.{readText, circuitContext, scheduleContext, eraseContext};
+ghost use Rattle.listings.specs.Listings.{readListing};
+ghost use Rattle.listings.specs.Held.{heldReading};
 ghost use Rattle.tables.specs.Records.{freeRecords};
-ghost use Rattle.reader.specs.Reads.{pastLimits, keptWith, restFrom, readingOf, Filled};
+ghost use Rattle.reader.specs.Reads.{pastLimits, keptWith, restFrom, readingHeld, readBy, readingOf, Filled};
 
 // How many lines have a circuit's word, with one that has this word.
 fn kept_with(kept: usize, word: Word) -> usize
@@ -49,8 +52,9 @@ pub enum FileRead {
     Refused { number: u32, place: u32 },
 }
 
-// The lines from `start` on, into records that are free.
+// The lines from `start` on, into records that are free, in a file that counts levels so.
 fn read_lines(
+    levels: Levels,
     context: Context,
     header: Header,
     text: &[u8],
@@ -61,7 +65,7 @@ fn read_lines(
     requires { ⌜ context .limit ≤ 1792 ⌝ }
     requires { ⌜ start ≤ length (now text) ⌝ }
     requires { ⌜ now records ≡ freeRecords ⌝ }
-    ensures { λ r. ⌜ readingOf r (now (records .exit)) ≡ restFrom context header [] (linesOf (drop start (now (text .entry)))) ⌝ }
+    ensures { λ r. ⌜ readingOf r (now (records .exit)) ≡ readingHeld levels (restFrom levels context header [] (linesOf (drop start (now (text .entry))))) ⌝ }
     ensures filled { λ r. ⌜ Filled (context .limit) r (now (records .exit)) ⌝ }
 {
     let grammar = context.grammar;
@@ -69,14 +73,14 @@ fn read_lines(
     let mut kept: usize = 0;
     let mut at = start;
     while at < text.len() {
-        let found = words::word_at(text, at);
+        let found = words::word_at(levels, text, at);
         let word = found.word;
         let number = tables::number_of(word);
         if past_limits(context, count, kept, word) {
             let place = (count as u32) + 2;
             return FileRead::Refused { number: 3, place };
         }
-        match lines::read_line(grammar, header, records, count, text, found) {
+        match lines::read_line(levels, grammar, header, records, count, text, found) {
             LineRead::Bad { number, place } => return FileRead::Refused { number, place },
             LineRead::Good { a, b, c, end } => {
                 records[count] = [number, a, b, c];
@@ -90,16 +94,16 @@ fn read_lines(
 }
 
 // A whole text: its header line, then its lines, into records that are free.
-pub fn read_file(context: Context, text: &[u8], records: &mut [Record]) -> FileRead
+pub fn read_file(levels: Levels, context: Context, text: &[u8], records: &mut [Record]) -> FileRead
     requires { ⌜ context .limit ≤ 1792 ⌝ }
     requires { ⌜ now records ≡ freeRecords ⌝ }
-    ensures { λ r. ⌜ readingOf r (now (records .exit)) ≡ readText context (now (text .entry)) ⌝ }
+    ensures { λ r. ⌜ readingOf r (now (records .exit)) ≡ readBy levels context (now (text .entry)) ⌝ }
     ensures filled { λ r. ⌜ Filled (context .limit) r (now (records .exit)) ⌝ }
 {
     let grammar = context.grammar;
-    match lines::headers::read_header(grammar, text) {
+    match lines::headers::read_header(levels, grammar, text) {
         HeaderRead::Bad { number, place } => FileRead::Refused { number, place },
-        HeaderRead::Head { header, end } => read_lines(context, header, text, end, records),
+        HeaderRead::Head { header, end } => read_lines(levels, context, header, text, end, records),
     }
 }
 
@@ -114,7 +118,7 @@ pub fn read_circuit(text: &[u8], records: &mut [Record]) -> FileRead
         limit: 256,
         keptlimit: 256,
     };
-    read_file(context, text, records)
+    read_file(Levels::Falling, context, text, records)
 }
 
 // A schedule.
@@ -128,7 +132,7 @@ pub fn read_schedule(text: &[u8], records: &mut [Record]) -> FileRead
         limit: 1792,
         keptlimit: 1792,
     };
-    read_file(context, text, records)
+    read_file(Levels::Falling, context, text, records)
 }
 
 // A schedule that is to be erased: a 257th line that would be kept is one too many.
@@ -142,5 +146,19 @@ pub fn read_erase(text: &[u8], records: &mut [Record]) -> FileRead
         limit: 1792,
         keptlimit: 256,
     };
-    read_file(context, text, records)
+    read_file(Levels::Falling, context, text, records)
+}
+
+// A listing in the rising-level dialect, limited as a schedule that is to be erased. Its levels are held counted down, and a `ds` as a rescale by 0.
+pub fn read_listing(text: &[u8], records: &mut [Record]) -> FileRead
+    requires { ⌜ now records ≡ freeRecords ⌝ }
+    ensures { λ r. ⌜ readingOf r (now (records .exit)) ≡ heldReading (readListing (now (text .entry))) ⌝ }
+    ensures filled { λ r. ⌜ Filled 1792 r (now (records .exit)) ⌝ }
+{
+    let context = Context {
+        grammar: Grammar::Schedule,
+        limit: 1792,
+        keptlimit: 256,
+    };
+    read_file(Levels::Rising, context, text, records)
 }

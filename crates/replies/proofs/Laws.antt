@@ -11,13 +11,12 @@ use lib.ListN.{length, length-map}
 use mir.Syntax.{w32}
 use mir.Val.{Fits}
 use Rattle.fields.specs.Pieces.{Bytes}
-use Rattle.model.specs.declared.Grammar.{Grammar}
 use Rattle.model.specs.declared.Header.{Header}
 use Rattle.model.specs.declared.Answer.{Answer}
 use Rattle.model.specs.declared.Answer.the-variants.{Done, Level, Refused}
 use Rattle.model.specs.Answers.{answerFile}
 use Rattle.text.specs.Tables.{fileOf}
-use Rattle.text.specs.Files.{fileText}
+use Rattle.text.specs.Files.{textUnder}
 use Rattle.text.proofs.Tables.{count-length}
 use Rattle.text.proofs.Most.{text-most}
 use Rattle.tables.specs.Records.{lineOf, held}
@@ -50,13 +49,13 @@ module _ (file : ℕ) (a : Answer) where
   answer-refused n p f r e q s = rw (e, ← q) s
 
 -- ---- the bytes that are needed
-module _ (g : Grammar) (h : Header) (records : List (List ℕ)) (count : ℕ) (all : length records ≡ 1792) (few : count ≤ 1792) where
+module _ (word : Bytes) (h : Header) (records : List (List ℕ)) (count : ℕ) (short : length word ≤ 8) (all : length records ≡ 1792) (few : count ≤ 1792) where
   abbrev held-text : Bytes
-  held-text = fileText g (fileOf (held h records count))
+  held-text = textUnder word (fileOf (held h records count))
 
   text-few : length held-text ≤ 72 * count + 75
   text-few =
-      omega (arith, text-most g (fileOf (held h records count)), count-length (held h records count) (length-map records lineOf ∙ all) few)
+      omega (arith, text-most word (fileOf (held h records count)) short, count-length (held h records count) (length-map records lineOf ∙ all) few)
 
   pub room-for-all : (room : ℕ) → 72 * count + 75 ≤ room → leb (72 * count + 75) room ≡ leb (length held-text) room
   room-for-all room enough =

@@ -1,6 +1,5 @@
 // From what a service comes to, to its reply: a refusal, an answer on tables that were read, or a table's text in the buffer that is lent.
 use model::Answer;
-use model::Grammar;
 use model::Header;
 use services::Reply;
 use tables::Record;
@@ -12,7 +11,7 @@ ghost use Rattle.model.specs.Answers.{answerFile};
 ghost use Rattle.model.specs.declared.Answer.the-variants.{Refused};
 ghost use Rattle.tables.specs.Records.{held};
 ghost use Rattle.text.specs.Tables.{fileOf};
-ghost use Rattle.text.specs.Files.{fileText};
+ghost use Rattle.text.specs.Files.{textUnder};
 ghost use Rattle.services.specs.Outcomes.{writes, refuses, replyOf, Replied};
 ghost use Rattle.services.specs.Calls.{answered};
 
@@ -59,41 +58,43 @@ pub fn answered(file: u32, answer: Answer) -> Reply
 
 // The bytes that the text needs. No line is longer than 72 bytes, so where there is room for as many of those as there are lines, and for the
 // header, the lines are not counted through.
-fn bytes_needed(
+fn bytes_needed<'a>(
     room: usize,
-    grammar: Grammar,
+    word: &'a [u8],
     header: Header,
-    records: &[Record],
+    records: &'a [Record],
     count: usize,
 ) -> usize
+    requires { ⌜ length (now word) ≤ 8 ⌝ }
     requires { ⌜ length (now records) ≡ 1792 ⌝ }
     requires { ⌜ count ≤ 1792 ⌝ }
-    ensures { λ r. ⌜ leb r room ≡ leb (length (fileText grammar (fileOf (held header (now (records .entry)) count)))) room ⌝ }
+    ensures { λ r. ⌜ leb r room ≡ leb (length (textUnder (now (word .entry)) (fileOf (held header (now (records .entry)) count)))) room ⌝ }
 {
     let most = 72 * count + 75;
     if most <= room {
         return most;
     }
-    writer::file_len(grammar, header, records, count)
+    writer::file_len(word, header, records, count)
 }
 
-// The text is written only when it is known to fit.
-pub fn lend(
+// The text under a header word is written only when it is known to fit.
+pub fn lend<'a>(
     out: &mut [u8],
-    grammar: Grammar,
+    word: &'a [u8],
     header: Header,
-    records: &[Record],
+    records: &'a [Record],
     count: usize,
 ) -> Reply
+    requires { ⌜ length (now word) ≤ 8 ⌝ }
     requires { ⌜ length (now records) ≡ 1792 ⌝ }
     requires { ⌜ count ≤ 1792 ⌝ }
-    ensures { λ r. ⌜ Replied (writes (fileText grammar (fileOf (held header (now (records .entry)) count)))) (now (out .entry)) r (now (out .exit)) ⌝ }
+    ensures { λ r. ⌜ Replied (writes (textUnder (now (word .entry)) (fileOf (held header (now (records .entry)) count)))) (now (out .entry)) r (now (out .exit)) ⌝ }
 {
-    let needed = bytes_needed(out.len(), grammar, header, records, count);
+    let needed = bytes_needed(out.len(), word, header, records, count);
     if out.len() < needed {
         return refusal(13, 0, 0);
     }
-    let written = writer::put_file(out, grammar, header, records, count);
+    let written = writer::put_file(out, word, header, records, count);
     Reply {
         number: 0,
         file: 0,

@@ -6,3 +6,4 @@ pub mod FormLaws
 pub mod LineLaws
 pub mod LengthLaws
 pub mod RowLaws
+pub mod MapLaws

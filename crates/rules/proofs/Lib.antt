@@ -1,2 +1,4 @@
+pub mod Counted
 mod Operands
 mod Checking
+pub mod Downscales

@@ -1,14 +1,15 @@
 -- A well-formed line's operands name earlier lines of the kinds that its word asks for, and the check's step is the step on the plain numbers
--- that those hold. Assumes nothing.
-use Prim.Native.Nat.{ℕ, zero, suc, _+_, _*_, _<_}
+-- that those hold; a rescale by 0 stands for `ds`. Assumes nothing.
+use Prim.Native.Nat.{ℕ, _+_, _-_, _*_, _<_}
 use native.Mathlib.Omega.{arith}
-use mathlib.Core.Path.{_≡_, refl, ap, ap₂, _∙_}
+use mathlib.Core.Path.{_≡_, refl, ap, ap₂, _∙_, subst}
 use mathlib.Core.Bool.{Bool, true, false, cond}
 use mathlib.Core.List.{List, [], _∷_}
 use mathlib.Core.Option.{Option, some}
-use lib.Dec.{T, eqb}
-use lib.IntN.{ℤ, pos, _-ℤ_}
+use lib.Dec.{T, eqb, ltb}
+use lib.IntN.{ℤ, pos, _+ℤ_, _-ℤ_, _*ℤ_}
 use lib.ListN.{length, getD, getElem?}
+use lib.Signed.{leZ}
 use Rattle.model.specs.declared.Grammar.the-variants.{Schedule}
 use Rattle.model.specs.declared.Header.{Header}
 use Rattle.model.specs.declared.Kind.{Kind}
@@ -18,9 +19,11 @@ use Rattle.model.specs.declared.Line.the-variants.{In, Const, Neg, Rot, Add, Mu
 use Rattle.model.specs.declared.Found.{Found}
 use Rattle.model.specs.declared.Found.the-variants as Founds
 use Rattle.rows.specs.Rows.{Tests}
-use Rattle.model.specs.Files.{kindOf, kindAt, isCiphertext, isConstant, isPair, isUsable, everyUsable}
+use Rattle.model.specs.Scales.{headroom}
+use Rattle.model.specs.Files.{kindOf, kindAt, isCiphertext, isConstant, isPair, isUsable, everyUsable, kindsFit}
 use Rattle.model.specs.Machine.{Step, goes, stops, andThen, heldBy, step}
-use Rattle.model.specs.Answers.{unless, boundTests, bounded, onBare, onCiphertext, onPair, sum, product, checkMachine}
+use Rattle.model.specs.Answers.{unless, boundTests, bounded, onBare, onCiphertext, onPair, sum, product}
+use Rattle.listings.specs.Held.{countedLine, downscaled, heldMachine, scaleOf}
 use Rattle.model.proofs.Tests.{and-first, and-second, is-ciphertext, is-constant}
 use Rattle.model.proofs.Runs.{orAbsent}
 use Rattle.model.proofs.Formed.{LineFacts, usable-below}
@@ -28,15 +31,13 @@ use Rattle.bounds.specs.declared.Ruled.{Ruled}
 use Rattle.bounds.specs.declared.Ruled.the-variants.{Goes, Stops}
 use Rattle.linerules.specs.declared.Held.{Held}
 use Rattle.bounds.specs.Bounded.{ruledUnless, boundedNumbers}
-use Rattle.linerules.specs.Ruled.{movedBy, sumOf, productOf, ruledBy}
+use Rattle.linerules.specs.Ruled.{movedBy, sumOf, productOf, downscaledOf, ruledBy}
 use Rattle.tables.specs.Operands.{firstOperand, secondOperand}
+use Rattle.rules.proofs.Counted.{same-counted, counted-operands}
 
--- what line a holds, among all that is held
-abbrev pub nothing : Held
-nothing = record { scale = 0; level = 0 }
-
-abbrev pub heldAt : List Held → ℕ → Held
-heldAt all a = getD all a nothing
+-- what line a holds, by the scales and levels of all
+abbrev pub heldAt : List ℕ → List ℕ → ℕ → Held
+heldAt scales levels a = record { scale = getD scales a 0; level = getD levels a 0 }
 
 -- ---- what numbers stand for, by a line's kind; an `out` line, which nothing names, holds what its ciphertext does
 abbrev pub foundAs : Kind → ℕ → ℕ → Found
@@ -97,6 +98,13 @@ module _ (h : Header) (x y : Held) where
       ap (unless tests) (bounded-is h Ciphertext both both (pos (x .level)) (pos (x .level)) refl refl)
       ∙ unless-is Ciphertext tests (boundedNumbers h both (pos (x .level)))
 
+downscaled-is : (h : Header) (x : Held) → downscaled h (x .scale) (x .level) ≡ stepOf Ciphertext (downscaledOf h x)
+downscaled-is h x =
+    let raised = h .waterline + h .factor in
+    let tests : Tests =
+    (14, ltb (x .scale) raised) ∷ (9, leZ (pos raised +ℤ pos (headroom h)) (pos (h .factor) *ℤ pos (x .level))) ∷ [] in
+    unless-is Ciphertext tests (Goes (h .waterline) (x .level - 1))
+
 -- ---- operands
 -- two ciphertexts, or one and an encoded constant, in either place
 pair-is :
@@ -112,63 +120,97 @@ pair-is Encoded Encoded t f s l s′ l′ = absurd t
 pair-is Encoded Nothing t f s l s′ l′ = absurd t
 pair-is Nothing k t f s l s′ l′ = absurd t
 
--- what a well-formed line names stands before it, and 0 is named where it names nothing
-pub operand-below : (before : List Line) (most : ℕ) → length before < most → (names : List ℕ) → T (everyUsable before names) → (j : ℕ) → getD names j 0 < most
-operand-below before most few [] u j = omega arith
-operand-below before most few (a ∷ names) u zero =
-    let below = usable-below before a (and-first (isUsable (kindAt before a)) (everyUsable before names) u) in omega arith
-operand-below before most few (a ∷ names) u (suc j) =
-    operand-below before most few names (and-second (isUsable (kindAt before a)) (everyUsable before names) u) j
-
 -- ---- the check's step, where the lines before hold what their numbers stand for
 module _
-    (h : Header) (before : List Line) (found : List Found) (all : List Held)
-    (agree : (a : ℕ) → a < length before → getElem? found a ≡ some (foundAs (kindAt before a) (heldAt all a .scale) (heldAt all a .level))) where
+    (h : Header) (before : List Line) (found : List Found) (scales levels : List ℕ)
+    (agree : (a : ℕ) → a < length before → getElem? found a ≡ some (foundAs (kindAt before a) (getD scales a 0) (getD levels a 0))) where
   abbrev foundAt : ℕ → Found
-  foundAt a = foundAs (kindAt before a) (heldAt all a .scale) (heldAt all a .level)
+  foundAt a = foundAs (kindAt before a) (getD scales a 0) (getD levels a 0)
 
   -- with the first operand, and with the one after it
   first-held :
-      (a : ℕ) (names : List ℕ) → T (everyUsable before (a ∷ names)) → (f : Found → Step Found ℕ) → andThen (heldBy (checkMachine h) found a) f ≡ f (foundAt a)
+      (a : ℕ) (names : List ℕ) → T (everyUsable before (a ∷ names)) → (f : Found → Step Found ℕ) → andThen (heldBy (heldMachine h) found a) f ≡ f (foundAt a)
   first-held a names u f =
-      ap (λ (o : Option Found). andThen (orAbsent (checkMachine h .absent) o) f)
+      ap (λ (o : Option Found). andThen (orAbsent (heldMachine h .absent) o) f)
       (agree a (usable-below before a (and-first (isUsable (kindAt before a)) (everyUsable before names) u)))
 
   ciphertext-held :
       (a : ℕ) → T (everyUsable before (a ∷ [])) → T (isCiphertext (kindAt before a)) → (f : ℕ → ℕ → Step Found ℕ) →
-      andThen (heldBy (checkMachine h) found a) (onCiphertext f) ≡ f (heldAt all a .scale) (heldAt all a .level)
+      andThen (heldBy (heldMachine h) found a) (onCiphertext f) ≡ f (getD scales a 0) (getD levels a 0)
   ciphertext-held a u t f =
       first-held a [] u (onCiphertext f)
-      ∙ ap (λ (k : Kind). onCiphertext f (foundAs k (heldAt all a .scale) (heldAt all a .level))) (is-ciphertext (kindAt before a) t)
+      ∙ ap (λ (k : Kind). onCiphertext f (foundAs k (getD scales a 0) (getD levels a 0))) (is-ciphertext (kindAt before a) t)
 
   constant-held :
-      (a : ℕ) → T (everyUsable before (a ∷ [])) → T (isConstant (kindAt before a)) → (r : Step Found ℕ) → andThen (heldBy (checkMachine h) found a) (onBare r) ≡ r
+      (a : ℕ) → T (everyUsable before (a ∷ [])) → T (isConstant (kindAt before a)) → (r : Step Found ℕ) → andThen (heldBy (heldMachine h) found a) (onBare r) ≡ r
   constant-held a u t r =
       first-held a [] u (onBare r)
-      ∙ ap (λ (k : Kind). onBare r (foundAs k (heldAt all a .scale) (heldAt all a .level))) (is-constant (kindAt before a) t)
+      ∙ ap (λ (k : Kind). onBare r (foundAs k (getD scales a 0) (getD levels a 0))) (is-constant (kindAt before a) t)
 
   pair-held :
       (a b : ℕ) → T (everyUsable before (a ∷ b ∷ [])) → T (isPair Schedule (kindAt before a) (kindAt before b)) → (f : ℕ → ℕ → ℕ → ℕ → Step Found ℕ) →
-      andThen (heldBy (checkMachine h) found a) (λ x. andThen (heldBy (checkMachine h) found b) (onPair f x))
-      ≡ f (heldAt all a .scale) (heldAt all a .level) (heldAt all b .scale) (heldAt all b .level)
+      andThen (heldBy (heldMachine h) found a) (λ x. andThen (heldBy (heldMachine h) found b) (onPair f x))
+      ≡ f (getD scales a 0) (getD levels a 0) (getD scales b 0) (getD levels b 0)
   pair-held a b u t f =
-      first-held a (b ∷ []) u (λ x. andThen (heldBy (checkMachine h) found b) (onPair f x))
+      first-held a (b ∷ []) u (λ x. andThen (heldBy (heldMachine h) found b) (onPair f x))
       ∙ first-held b [] (and-second (isUsable (kindAt before a)) (everyUsable before (b ∷ [])) u) (onPair f (foundAt a))
-      ∙ pair-is (kindAt before a) (kindAt before b) t f (heldAt all a .scale) (heldAt all a .level) (heldAt all b .scale) (heldAt all b .level)
+      ∙ pair-is (kindAt before a) (kindAt before b) t f (getD scales a 0) (getD levels a 0) (getD scales b 0) (getD levels b 0)
+
+  -- a rescale, and one by 0, which is a `ds`
+  rescale-held :
+      (a k : ℕ) → LineFacts Schedule h before (countedLine (Rs a k)) →
+      andThen (heldBy (heldMachine h) found a) (λ x. heldMachine h .rs x k) ≡ stepOf Ciphertext (ruledBy h (Rs a k) (heldAt scales levels a) (heldAt scales levels a))
+  unfolding ruledBy
+  rescale-held a k c =
+      first-held a [] usable (λ x. heldMachine h .rs x k)
+      ∙ ap (λ (j : Kind). heldMachine h .rs (foundAs j (getD scales a 0) (getD levels a 0)) k) (is-ciphertext (kindAt before a) kinds)
+      ∙ go (eqb k 0)
+    where
+      usable : T (everyUsable before (a ∷ []))
+      usable = subst (λ (names : List ℕ). T (everyUsable before names)) (counted-operands (Rs a k)) (c .usable)
+
+      kinds : T (isCiphertext (kindAt before a))
+      kinds = subst T (same-counted (kindsFit Schedule before) (λ b m n. refl) (Rs a k)) (c .kinds)
+
+      rescale : Step Found ℕ
+      rescale =
+          bounded h Founds.Ciphertext (pos (getD scales a 0) -ℤ pos (h .factor * k)) (pos (getD levels a 0) -ℤ pos k)
+
+      go :
+          (b : Bool) → cond b (downscaled h (getD scales a 0) (getD levels a 0)) rescale
+          ≡ stepOf Ciphertext (cond b (downscaledOf h (heldAt scales levels a)) (movedBy h (heldAt scales levels a) 0 (h .factor * k) k))
+      go true = downscaled-is h (heldAt scales levels a)
+      go false = rescaled h Ciphertext (heldAt scales levels a) k
 
   pub step-is :
-      (ins : ℕ) (x : Line) → LineFacts Schedule h before x →
-      step (checkMachine h) ins found x ≡ stepOf (kindOf x) (ruledBy h x (heldAt all (firstOperand x)) (heldAt all (secondOperand x)))
+      (ins : ℕ) (x : Line) → LineFacts Schedule h before (countedLine x) →
+      step (heldMachine h) ins found x ≡ stepOf (kindOf x) (ruledBy h x (heldAt scales levels (firstOperand x)) (heldAt scales levels (secondOperand x)))
   unfolding ruledBy firstOperand secondOperand
   step-is ins In c = bounded-is h Ciphertext (pos (h .waterline)) (pos (h .waterline)) (pos (h .top)) (pos (h .top)) refl refl
   step-is ins (Const k) c = refl
-  step-is ins (Neg a) c = ciphertext-held a (c .usable) (c .kinds) _ ∙ unmoved h Ciphertext (heldAt all a)
-  step-is ins (Rot a t) c = ciphertext-held a (c .usable) (c .kinds) _ ∙ unmoved h Ciphertext (heldAt all a)
-  step-is ins (Add a b) c = pair-held a b (c .usable) (c .kinds) (sum h) ∙ sum-is h (heldAt all a) (heldAt all b)
-  step-is ins (Mul a b) c = pair-held a b (c .usable) (c .kinds) (product h) ∙ product-is h (heldAt all a) (heldAt all b)
-  step-is ins (Out a) c = ciphertext-held a (c .usable) (c .kinds) _ ∙ unmoved h Nothing (heldAt all a)
+  step-is ins (Neg a) c = ciphertext-held a (c .usable) (c .kinds) _ ∙ unmoved h Ciphertext (heldAt scales levels a)
+  step-is ins (Rot a t) c = ciphertext-held a (c .usable) (c .kinds) _ ∙ unmoved h Ciphertext (heldAt scales levels a)
+  step-is ins (Add a b) c = pair-held a b (c .usable) (c .kinds) (sum h) ∙ sum-is h (heldAt scales levels a) (heldAt scales levels b)
+  step-is ins (Mul a b) c = pair-held a b (c .usable) (c .kinds) (product h) ∙ product-is h (heldAt scales levels a) (heldAt scales levels b)
+  step-is ins (Out a) c = ciphertext-held a (c .usable) (c .kinds) _ ∙ unmoved h Nothing (heldAt scales levels a)
   step-is ins (Enc a s e) c = constant-held a (c .usable) (c .kinds) _ ∙ bounded-is h Encoded (pos s) (pos s) (pos e) (pos e) refl refl
-  step-is ins (Rs a k) c = ciphertext-held a (c .usable) (c .kinds) _ ∙ rescaled h Ciphertext (heldAt all a) k
-  step-is ins (Ms a k) c = ciphertext-held a (c .usable) (c .kinds) _ ∙ modswitched h Ciphertext (heldAt all a) k
-  step-is ins (Us a b) c = ciphertext-held a (c .usable) (c .kinds) _ ∙ upscaled h Ciphertext (heldAt all a) b
+  step-is ins (Rs a k) c = rescale-held a k c
+  step-is ins (Ms a k) c = ciphertext-held a (c .usable) (c .kinds) _ ∙ modswitched h Ciphertext (heldAt scales levels a) k
+  step-is ins (Us a b) c = ciphertext-held a (c .usable) (c .kinds) _ ∙ upscaled h Ciphertext (heldAt scales levels a) b
   step-is ins Free c = absurd (c .word)
+
+-- the scale of what is found: a bare constant leaves 0
+pub scale-found : (h : Header) (x : Line) (v w : Held) (s l : ℕ) → ruledBy h x v w ≡ Goes s l → scaleOf (foundAs (kindOf x) s l) ≡ s
+unfolding ruledBy
+scale-found h In v w s l e = refl
+scale-found h (Const k) v w s l e = cc
+scale-found h (Neg a) v w s l e = refl
+scale-found h (Rot a t) v w s l e = refl
+scale-found h (Add a b) v w s l e = refl
+scale-found h (Mul a b) v w s l e = refl
+scale-found h (Out a) v w s l e = refl
+scale-found h (Enc a s′ l′) v w s l e = refl
+scale-found h (Rs a k) v w s l e = refl
+scale-found h (Ms a k) v w s l e = refl
+scale-found h (Us a b) v w s l e = refl
+scale-found h Free v w s l e = refl

@@ -15,11 +15,20 @@ use Rattle.rows.specs.Forms.{named}
 use Rattle.rows.specs.Lines.{linesOf, textOf}
 use Rattle.rows.specs.Rows.{readLine, rowsFrom, ended, readLines, readFile, fileText}
 use Rattle.services.specs.Outcomes.{Outcome, writes, passes, fitsAt, refuses}
+use Rattle.services.specs.Calls.{convertedOutcome}
+use Rattle.services.specs.WorkedListings.{listingRows, fullPlaces, allAlike}
 use Rattle.services.specs.Worked.{Finding, comesTo, gives, prints, scaleAndLevel, unscaled, Row, shown, findingOf, findingCode, rowHolds, allHold, table, noRow}
 
 pub tested : T (allHold table)
 unfolding headroom split join sameBytes digitsOf numberOf amountOf decimalIn readFields named linesOf textOf readLine rowsFrom ended readLines readFile fileText
 tested = tt
+
+pub listings-tested : T (allHold listingRows)
+unfolding convertedOutcome headroom split join sameBytes digitsOf numberOf amountOf decimalIn readFields named linesOf textOf readLine rowsFrom ended readLines readFile fileText
+listings-tested = tt
+
+pub places-tested : T (allAlike fullPlaces)
+places-tested = tt
 
 -- ---- a finding is known by its code
 outcome-from : List ℕ → Outcome

@@ -120,7 +120,7 @@ module _ (circuit schedule : Bytes) where
   zero-passed (schedule-unread c n p e q) z = absurd (not-zero (number-told scheduleContext schedule n p q) z)
   zero-passed (both-read c s e q) z = success e q (check c s) refl z
 
-  comes-to : {o : Outcome} → CheckCase o → OnceRead circuitContext circuit 1 (λ file. OnceRead scheduleContext schedule 2 (Verdict circuit)) o
+  comes-to : {o : Outcome} → CheckCase o → OnceRead (readText circuitContext circuit) 1 (λ file. OnceRead (readText scheduleContext schedule) 2 (Verdict circuit)) o
   comes-to (circuit-unread n p e) = Promises.unread n p (is-unread circuitContext circuit n p e)
   comes-to (schedule-unread c n p e q) = Promises.is-read c _ e (Promises.unread n p (is-unread scheduleContext schedule n p q))
   comes-to (both-read c s e q) = Promises.is-read c _ e (Promises.is-read s _ q (judged e q (check c s) refl))

@@ -65,7 +65,7 @@ module _ (schedule : Bytes) where
       go (refused n p) e = unread n p e
       go (read f) e = erased f e
 
-  erasure-reads : {f : File} → readText eraseContext schedule ≡ read f → readText circuitContext (fileText Circuit (eraseFile f)) ≡ read (eraseFile f)
+  pub erasure-reads : {f : File} → readText eraseContext schedule ≡ read f → readText circuitContext (fileText Circuit (eraseFile f)) ≡ read (eraseFile f)
   erasure-reads {f} e =
       let b = file-read-written eraseContext schedule e in
       let formed = Model.erasing (f .header) (f .lines) (b .formed) .formed in
@@ -73,7 +73,7 @@ module _ (schedule : Bytes) where
       let all = erased-count (f .header) [] (f .lines) (well-lines Schedule (f .header) (f .lines) (b .formed)) [] 0 in
       circuit-back (eraseFile f) formed (omega arith)
 
-  comes-to : {o : Outcome} → EraseCase schedule o → OnceRead eraseContext schedule 1 EraseComesTo o
+  comes-to : {o : Outcome} → EraseCase schedule o → OnceRead (readText eraseContext schedule) 1 EraseComesTo o
   comes-to (unread n p e) = Promises.unread n p (is-unread eraseContext schedule n p e)
   comes-to (erased f e) = Promises.is-read f _ e (Promises.erases (fileText Circuit (eraseFile f)) refl (erasure-reads e))
 

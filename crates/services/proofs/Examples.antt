@@ -2,18 +2,16 @@
 use Prim.Native.Nat.{ℕ}
 use native.Mathlib.Omega.{arith}
 use mathlib.Core.Path.{_≡_, refl, sym, ap, _∙_, subst}
-use mathlib.Core.List.{[]}
 use lib.Dec.{lit<}
 use Rattle.fields.specs.Pieces.{Bytes}
 use Rattle.rows.specs.Rows.{read}
 use Rattle.model.specs.Files.{File}
 use Rattle.text.specs.Files.{readText, circuitContext}
-use Rattle.services.specs.Outcomes.{Outcome, writes, refuses, lent, replyOf, bytesAfter}
+use Rattle.services.specs.Outcomes.{Outcome, writes, refuses, replyOf}
 use Rattle.services.specs.Calls.{planOutcome, checkOutcome}
-use Rattle.services.specs.declared.Reply.{Reply}
 use Rattle.services.specs.Promises as Promises
 use Rattle.services.specs.Promises.{OnceRead, Passed, TooFew, PlanComesTo}
-use Rattle.services.specs.Worked.{comesTo, shown, listing, listingByHand, fourth}
+use Rattle.services.specs.Worked.{comesTo, shown, example, exampleByHand, fourth}
 use Rattle.services.proofs.Planning.{plan-comes-to}
 use Rattle.services.proofs.Checking.{check-promise}
 use Rattle.services.proofs.Cases.{worked}
@@ -22,12 +20,12 @@ comes-to : {a b : Outcome} → comesTo a ≡ comesTo b → a ≡ b
 comes-to e = cc
 
 -- row 24: a schedule written by hand passes, and row 22: it is not the plan
-pub by-hand-passes : Passed (shown listing) (shown listingByHand)
+pub by-hand-passes : Passed (shown example) (shown exampleByHand)
 by-hand-passes =
-    check-promise (shown listing) (shown listingByHand) (replyOf (checkOutcome (shown listing) (shown listingByHand))) refl .zero-is-passed .0
+    check-promise (shown example) (shown exampleByHand) (replyOf (checkOutcome (shown example) (shown exampleByHand))) refl .zero-is-passed .0
     (ap (λ (o : Outcome). replyOf o .number) (comes-to (worked 24 (lit< tt))))
 
-pub by-hand-is-not-the-plan : planOutcome (shown listing) ≡ writes (shown listingByHand) → ⊥
+pub by-hand-is-not-the-plan : planOutcome (shown example) ≡ writes (shown exampleByHand) → ⊥
 by-hand-is-not-the-plan e =
     let same : _≡_ {A = ℕ} 84 111 = ap (λ (o : Outcome). replyOf o .length) (sym e ∙ comes-to (worked 22 (lit< tt))) in
     omega arith
@@ -38,7 +36,7 @@ pub record TooFewAt (circuit : Bytes) (place : ℕ) : Type 0 where
   pub reads : readText circuitContext circuit ≡ read file
   pub is : TooFew (file .header) (file .lines) place
 
-too-few-told : {circuit : Bytes} {o : Outcome} (place : ℕ) → OnceRead circuitContext circuit 1 (PlanComesTo circuit) o → o ≡ refuses 6 1 place → TooFewAt circuit place
+too-few-told : {circuit : Bytes} {o : Outcome} (place : ℕ) → OnceRead (readText circuitContext circuit) 1 (PlanComesTo circuit) o → o ≡ refuses 6 1 place → TooFewAt circuit place
 too-few-told place (Promises.unread n p u) e =
     let six : n ≡ 6 = cc in
     absurd (let few = u .by-reading (λ z. omega arith) .1 in omega arith)

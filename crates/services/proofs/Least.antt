@@ -7,7 +7,6 @@ use mathlib.Core.Logic.{_↔_}
 use mathlib.Core.Bool.{Bool, cond}
 use borrow.Author.Tests.{ne-eqb}
 use lib.Dec.{T}
-use lib.ListN.{length}
 use Rattle.fields.specs.Pieces.{Bytes}
 use Rattle.model.specs.declared.Answer.{Answer}
 use Rattle.model.specs.declared.Answer.the-variants.{Done, Level, Refused}
@@ -99,7 +98,7 @@ module _ (circuit : Bytes) where
       }
 
   abbrev Comes : Outcome → Type 0
-  Comes = OnceRead circuitContext circuit 1 LeastComesTo
+  Comes = OnceRead (readText circuitContext circuit) 1 LeastComesTo
 
   comes-to : {o : Outcome} → LeastCase circuit o → Comes o
   comes-to (unread n p e) = Promises.unread n p (is-unread circuitContext circuit n p e)

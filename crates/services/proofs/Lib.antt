@@ -7,6 +7,7 @@ pub mod OneOutcome
 pub mod Planning
 pub mod Checking
 pub mod Erasing
+pub mod Converting
 pub mod Least
 pub mod Program
 pub mod Examples

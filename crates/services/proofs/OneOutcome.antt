@@ -19,7 +19,6 @@ use Rattle.model.specs.Services.{scheduled, plan}
 use Rattle.model.specs.Broken.{ruleTests, FirstBroken}
 use Rattle.model.specs.Demands.{Schedulable}
 use Rattle.model.proofs.Tests.{below-or-not}
-use Rattle.text.specs.declared.Context.{Context}
 use Rattle.text.specs.Files.{readText, circuitContext, scheduleContext, eraseContext, fileText}
 use Rattle.services.specs.Outcomes.{Outcome, writes, fitsAt, refuses}
 use Rattle.services.specs.Promises as Promises
@@ -28,7 +27,7 @@ use Rattle.services.specs.Promises.{EraseComesTo, Least, LeastComesTo}
 use Rattle.services.proofs.Texts.{not-both, one-file}
 
 -- ---- one reading, one line, one level
-neither-below : (m n : ℕ) → (m < n → ⊥) → (n < m → ⊥) → m ≡ n
+pub neither-below : (m n : ℕ) → (m < n → ⊥) → (n < m → ⊥) → m ≡ n
 neither-below m n f g = go (below-or-not m n) (below-or-not n m)
   where
     go : (m < n) ⊎ (n ≤ m) → (n < m) ⊎ (m ≤ n) → m ≡ n
@@ -36,7 +35,7 @@ neither-below m n f g = go (below-or-not m n) (below-or-not n m)
     go (inr u) (inl v) = absurd (g v)
     go (inr u) (inr v) = omega arith
 
-same-refusal : {x : Reading File} {m p n q : ℕ} (file : ℕ) → x ≡ refused m p → x ≡ refused n q → refuses m file p ≡ refuses n file q
+pub same-refusal : {A : Type 0} {x : Reading A} {m p n q : ℕ} (file : ℕ) → x ≡ refused m p → x ≡ refused n q → refuses m file p ≡ refuses n file q
 same-refusal file e f = cc
 
 too-few-place : {h : Header} {lines : List Line} {p q : ℕ} → TooFew h lines p → TooFew h lines q → p ≡ q
@@ -54,11 +53,11 @@ abbrev pub One : (Outcome → Type 0) → Type 0
 One ComesTo = (o q : Outcome) → ComesTo o → ComesTo q → o ≡ q
 
 -- a text is refused in one way, or is read to one file: where one outcome follows of that file, one follows of the text
-one-read : (c : Context) (text : Bytes) (which : ℕ) (Then : File → Outcome → Type 0) → ((f : File) → readText c text ≡ read f → One (Then f)) → One (OnceRead c text which Then)
-one-read c text which Then each o q (unread m p u) (unread n r v) = same-refusal which (u .is-refused) (v .is-refused)
-one-read c text which Then each o q (unread m p u) (is-read f w e t) = not-both e (u .is-refused)
-one-read c text which Then each o q (is-read f w e t) (unread n r v) = not-both e (v .is-refused)
-one-read c text which Then each o q (is-read f v e t) (is-read k w i s) = each f e o q t (subst (λ (x : File). Then x q) (one-file i e) s)
+pub one-read : {A : Type 0} (x : Reading A) (which : ℕ) (Then : A → Outcome → Type 0) → ((f : A) → x ≡ read f → One (Then f)) → One (OnceRead x which Then)
+one-read x which Then each o q (unread m p u) (unread n r v) = same-refusal which (u .is-refused) (v .is-refused)
+one-read x which Then each o q (unread m p u) (is-read f w e t) = not-both e (u .is-refused)
+one-read x which Then each o q (is-read f w e t) (unread n r v) = not-both e (v .is-refused)
+one-read {A} x which Then each o q (is-read f v e t) (is-read k w i s) = each f e o q t (subst (λ (y : A). Then y q) (one-file i e) s)
 
 -- ---- plan
 planned-once : (circuit : Bytes) (f : File) → readText circuitContext circuit ≡ read f → One (PlanComesTo circuit f)
@@ -74,19 +73,19 @@ planned-once circuit f e o q (Promises.plans w x) (Promises.plans v y) =
     let same : x .passed .files .schedule-file ≡ y .passed .files .schedule-file = cc in
     ap writes (x .text-is ∙ ap (fileText Schedule) same ∙ sym (y .text-is))
 
-pub one-plan : (circuit : Bytes) → One (OnceRead circuitContext circuit 1 (PlanComesTo circuit))
-one-plan circuit = one-read circuitContext circuit 1 (PlanComesTo circuit) (planned-once circuit)
+pub one-plan : (circuit : Bytes) → One (OnceRead (readText circuitContext circuit) 1 (PlanComesTo circuit))
+one-plan circuit = one-read (readText circuitContext circuit) 1 (PlanComesTo circuit) (planned-once circuit)
 
 -- ---- erase
-pub one-erasure : (schedule : Bytes) → One (OnceRead eraseContext schedule 1 EraseComesTo)
-one-erasure schedule = one-read eraseContext schedule 1 EraseComesTo once
+pub one-erasure : (schedule : Bytes) → One (OnceRead (readText eraseContext schedule) 1 EraseComesTo)
+one-erasure schedule = one-read (readText eraseContext schedule) 1 EraseComesTo once
   where
     once : (f : File) → readText eraseContext schedule ≡ read f → One (EraseComesTo f)
     once f e o q (Promises.erases w t r) (Promises.erases v s d) = subst (λ (x : Bytes). writes w ≡ writes x) (sym s) (ap writes t)
 
 -- ---- least level
-pub one-level : (circuit : Bytes) → One (OnceRead circuitContext circuit 1 LeastComesTo)
-one-level circuit = one-read circuitContext circuit 1 LeastComesTo once
+pub one-level : (circuit : Bytes) → One (OnceRead (readText circuitContext circuit) 1 LeastComesTo)
+one-level circuit = one-read (readText circuitContext circuit) 1 LeastComesTo once
   where
     once : (f : File) → readText circuitContext circuit ≡ read f → One (LeastComesTo f)
     once f e o q (Promises.fits-from l x) (Promises.fits-from m y) = ap fitsAt (least-level x y)
@@ -96,7 +95,7 @@ one-level circuit = one-read circuitContext circuit 1 LeastComesTo once
 
 -- ---- check
 -- lines that keep the rules do so up to any line
-keeps-up-to : {h : Header} (xs : List Line) → KeepsRules h xs → (n : ℕ) → KeepsRules h (take n xs)
+pub keeps-up-to : {h : Header} (xs : List Line) → KeepsRules h xs → (n : ℕ) → KeepsRules h (take n xs)
 keeps-up-to {h} xs k n = record { scale = k .scale; level = k .level; rules = rules; bounds = bounds }
   where
     shorter : (i : ℕ) → i < length (take n xs) → (i < n) × (i < length xs)
@@ -111,10 +110,10 @@ keeps-up-to {h} xs k n = record { scale = k .scale; level = k .level; rules = ru
     bounds : (i : ℕ) → i < length (take n xs) → T (hasScale (getD (take n xs) i Free)) → Bounds h (k .scale i) (k .level i)
     bounds i u t = k .bounds i (shorter i u .1) (subst (λ (x : Line). T (hasScale x)) (same i u) t)
 
-keeps-shorter : {h : Header} (xs : List Line) (m n : ℕ) → m ≤ n → KeepsRules h (take n xs) → KeepsRules h (take m xs)
+pub keeps-shorter : {h : Header} (xs : List Line) (m n : ℕ) → m ≤ n → KeepsRules h (take n xs) → KeepsRules h (take m xs)
 keeps-shorter {h} xs m n u k = subst (KeepsRules h) (take-take m n xs u) (keeps-up-to (take n xs) k m)
 
-first-broken-one :
+pub first-broken-one :
     {h : Header} {xs : List Line} {m p n q file : ℕ} → FirstBroken h xs m p → FirstBroken h xs n q → refuses m file p ≡ refuses n file q
 first-broken-one {h} {xs} {m} {p} {n} {q} x y =
     let line = neither-below (x .line) (y .line) (λ u. x .with-it (keeps-shorter xs (suc (x .line)) (y .line) u (y .before)))
@@ -153,7 +152,7 @@ one-verdict circuit s (breaks-rule n p i b) (keeps-rules e k) = absurd (b .with-
 one-verdict circuit s (breaks-rule n p e b) (other-circuit q x) = same-texts e x
 one-verdict circuit s (breaks-rule m p e a) (breaks-rule n q i b) = first-broken-one a b
 
-pub one-check : (circuit schedule : Bytes) → One (OnceRead circuitContext circuit 1 (λ file. OnceRead scheduleContext schedule 2 (Verdict circuit)))
+pub one-check : (circuit schedule : Bytes) → One (OnceRead (readText circuitContext circuit) 1 (λ file. OnceRead (readText scheduleContext schedule) 2 (Verdict circuit)))
 one-check circuit schedule =
-    one-read circuitContext circuit 1 (λ file. OnceRead scheduleContext schedule 2 (Verdict circuit))
-    (λ f e. one-read scheduleContext schedule 2 (Verdict circuit) (λ s i o q. one-verdict circuit s))
+    one-read (readText circuitContext circuit) 1 (λ file. OnceRead (readText scheduleContext schedule) 2 (Verdict circuit))
+    (λ f e. one-read (readText scheduleContext schedule) 2 (Verdict circuit) (λ s i o q. one-verdict circuit s))

@@ -123,12 +123,12 @@ module _ (circuit : Bytes) where
         best = plan-best e q p;
       }
 
-  case-comes-to : {o : Outcome} → PlanCase circuit o → OnceRead circuitContext circuit 1 (PlanComesTo circuit) o
+  case-comes-to : {o : Outcome} → PlanCase circuit o → OnceRead (readText circuitContext circuit) 1 (PlanComesTo circuit) o
   case-comes-to (unread n p e) = Promises.unread n p (is-unread circuitContext circuit n p e)
   case-comes-to (few f p e q) = Promises.is-read f _ e (Promises.too-few p (too-few-at f p (back e .formed) q))
   case-comes-to (written f s e q) = Promises.is-read f _ e (Promises.plans (fileText Schedule s) (plans-text e q))
 
-  pub plan-comes-to : OnceRead circuitContext circuit 1 (PlanComesTo circuit) (planOutcome circuit)
+  pub plan-comes-to : OnceRead (readText circuitContext circuit) 1 (PlanComesTo circuit) (planOutcome circuit)
   plan-comes-to = case-comes-to plan-case
 
 module _ (circuit out : Bytes) (r : Reply) (after : Bytes) where

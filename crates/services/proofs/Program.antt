@@ -15,7 +15,7 @@ use Rattle.model.specs.Files.{File}
 use Rattle.model.specs.Services.{scheduled, plan}
 use Rattle.model.proofs.Theorems as Model
 use Rattle.rows.specs.Rows.{Reading, read}
-use Rattle.text.specs.Files.{readText, circuitContext, fileText}
+use Rattle.text.specs.Files.{headerWord, readText, circuitContext, fileText}
 use Rattle.text.proofs.FileLaws.{file-read-written}
 use Rattle.text.proofs.Most.{text-most, two-numbers-most}
 use Rattle.text.proofs.Theorems as Text
@@ -46,7 +46,7 @@ pub plan-short : (input : Bytes) (f s : File) → readText circuitContext input 
 plan-short input f s e q =
     let b = file-read-written circuitContext input e in
     let lines = Model.the-plan f (b .formed) s q .few (few-lines circuitContext b) in
-    omega (arith, text-most Schedule s)
+    omega (arith, text-most (headerWord Schedule) s (omega arith))
 
 -- what the reply and the bytes of planning say, with such a buffer
 record Printed (o : Outcome) (out : Bytes) (r : Reply) (after : Bytes) : Type 0 where

@@ -2,14 +2,13 @@
 use Prim.Native.Nat.{ℕ}
 use mathlib.Core.Path.{_≡_, refl, subst}
 use Rattle.fields.specs.Pieces.{Bytes}
-use Rattle.model.specs.Files.{File}
 use Rattle.rows.specs.Rows.{Reading, read, refused}
 use Rattle.services.specs.declared.Reply.{Reply}
 use Rattle.services.specs.Outcomes.{Outcome, refuses, replyOf, Replied}
 use Rattle.services.specs.Calls.{onceRead}
 
-module _ (number : ℕ) {x : Reading File} (more : File → Outcome) where
-  pub once-read : (f : File) → x ≡ read f → more f ≡ onceRead number x more
+module _ {A : Type 0} (number : ℕ) {x : Reading A} (more : A → Outcome) where
+  pub once-read : (f : A) → x ≡ read f → more f ≡ onceRead number x more
   once-read f e = rw e
 
   pub once-refused : (n p : ℕ) → x ≡ refused n p → refuses n number p ≡ onceRead number x more

@@ -3,14 +3,12 @@
 use Prim.Native.Nat.{ℕ, _≤_}
 use native.Mathlib.Omega.{arith}
 use mathlib.Core.Path.{_≡_, refl, sym, ap, _∙_}
-use mathlib.Core.List.{List}
 use lib.Dec.{T, leb, leb→le, le→leb}
 use lib.ListN.{length}
 use Rattle.fields.specs.Pieces.{Bytes}
-use Rattle.model.specs.declared.Line.{Line}
 use Rattle.model.specs.declared.Grammar.the-variants.{Circuit, Schedule}
 use Rattle.model.specs.Files.{File, wellFormed, limit}
-use Rattle.model.specs.Services.{erase, eraseFile}
+use Rattle.model.specs.Services.{eraseFile}
 use Rattle.model.proofs.Statements.Check.{PassedFiles}
 use Rattle.model.proofs.Tests.{and-first, and-both}
 use Rattle.model.proofs.Theorems as Model
@@ -21,14 +19,14 @@ use Rattle.text.proofs.Statements.Refusals as Numbers
 use Rattle.text.proofs.FileLaws.{FileBack, kept-most, file-written-read, file-read-written}
 use Rattle.text.proofs.Unique.{text-of-one}
 use Rattle.text.proofs.Theorems as Text
-use Rattle.services.specs.Promises.{IsInverse, Unread, BothRead, Passed, IsExact}
+use Rattle.services.specs.Promises.{IsInverse, Unread, Passed, IsExact}
 
 -- ---- readings
 -- a text is read or refused, and to one file
-pub not-both : {P : Type 0} {x : Reading File} {f : File} {n p : ℕ} → x ≡ read f → x ≡ refused n p → P
+pub not-both : {A P : Type 0} {x : Reading A} {f : A} {n p : ℕ} → x ≡ read f → x ≡ refused n p → P
 not-both e q = absurd (let z : _≡_ {A = ℕ} 0 1 = cc in omega arith)
 
-pub one-file : {x : Reading File} {f k : File} → x ≡ read f → x ≡ read k → f ≡ k
+pub one-file : {A : Type 0} {x : Reading A} {f k : A} → x ≡ read f → x ≡ read k → f ≡ k
 one-file e q = cc
 
 -- the numbers with which reading refuses
@@ -43,7 +41,7 @@ told Numbers.range f = absurd (f refl)
 pub number-told : (c : Context) (text : Bytes) (n p : ℕ) → readText c text ≡ refused n p → Numbers.IsNumber n
 number-told c text n p e = Text.refusals .refusal c text n p e .number
 
-pub is-unread : (c : Context) (text : Bytes) (n p : ℕ) → readText c text ≡ refused n p → Unread c text n p
+pub is-unread : (c : Context) (text : Bytes) (n p : ℕ) → readText c text ≡ refused n p → Unread (readText c text) n p
 is-unread c text n p e = record { is-refused = e; by-reading = told (number-told c text n p e) }
 
 pub few-lines : (c : Context) {text : Bytes} {f : File} → FileBack c text f → length (f .lines) ≤ c .limit

@@ -12,7 +12,7 @@ use Rattle.model.specs.declared.Header.{Header}
 use Rattle.model.specs.declared.Line.{Line}
 use Rattle.model.specs.declared.Grammar.the-variants.{Circuit, Schedule}
 use Rattle.model.specs.Scales.{withTop}
-use Rattle.rows.specs.Rows.{placeOf, read, refused}
+use Rattle.rows.specs.Rows.{placeOf, Reading, read, refused}
 use Rattle.model.specs.Files.{File, wellFormed, kindAt, isCiphertext}
 use Rattle.model.specs.Machine.{stopped, run}
 use Rattle.model.specs.Rules.{KeepsRules}
@@ -54,16 +54,16 @@ abbrev pub IsInverse : Context → Bytes → Type 0
 IsInverse c text = (file : File) → (readText c text ≡ read file) ↔ WrittenAs c text file
 
 -- a text is refused where it is read
-pub record Unread (c : Context) (text : Bytes) (number place : ℕ) : Type 0 where
-  pub is-refused : readText c text ≡ refused number place
+pub record Unread {A : Type 0} (reading : Reading A) (number place : ℕ) : Type 0 where
+  pub is-refused : reading ≡ refused number place
   -- what follows: by 1 to 5, or 11
   pub by-reading : (number ≡ 11 → ⊥) → (1 ≤ number) × (number ≤ 5)
 
--- what a call comes to that reads this text, and "which of them, counted from 1 in the order read": the refusal of the text, or what
+-- what a call comes to that reads a text so, and "which of them, counted from 1 in the order read": the refusal of the text, or what
 -- follows of its file
-pub data OnceRead (c : Context) (text : Bytes) (which : ℕ) (Then : File → Outcome → Type 0) : Outcome → Type 0 where
-  unread : (number place : ℕ) → Unread c text number place → OnceRead c text which Then (refuses number which place)
-  is-read : (file : File) (outcome : Outcome) → readText c text ≡ read file → Then file outcome → OnceRead c text which Then outcome
+pub data OnceRead {A : Type 0} (reading : Reading A) (which : ℕ) (Then : A → Outcome → Type 0) : Outcome → Type 0 where
+  unread : (number place : ℕ) → Unread reading number place → OnceRead reading which Then (refuses number which place)
+  is-read : (file : A) (outcome : Outcome) → reading ≡ read file → Then file outcome → OnceRead reading which Then outcome
 
 -- both files are read
 pub record BothRead (circuit schedule : Bytes) : Type 0 where
@@ -124,7 +124,7 @@ pub data PlanComesTo (circuit : Bytes) (file : File) : Outcome → Type 0 where
 
 pub record PlanPromise (circuit out : Bytes) (r : Reply) (after : Bytes) : Type 0 where
   pub inverse : IsInverse circuitContext circuit
-  pub call : TheOutcome (OnceRead circuitContext circuit 1 (PlanComesTo circuit))
+  pub call : TheOutcome (OnceRead (readText circuitContext circuit) 1 (PlanComesTo circuit))
   pub replies : Lent (call .outcome) out r after
   -- "exactly when there is none"
   pub too-few-iff : (file : File) → readText circuitContext circuit ≡ read file
@@ -152,7 +152,8 @@ pub record CheckPromise (circuit schedule : Bytes) (r : Reply) : Type 0 where
   pub inverse-circuit : IsInverse circuitContext circuit
   pub inverse-schedule : IsInverse scheduleContext schedule
   -- "Files are read top to bottom, circuit first"
-  pub call : TheOutcome (OnceRead circuitContext circuit 1 (λ file. OnceRead scheduleContext schedule 2 (Verdict circuit)))
+  pub call : TheOutcome (OnceRead (readText circuitContext circuit) 1
+      (λ file. OnceRead (readText scheduleContext schedule) 2 (Verdict circuit)))
   pub reply : r ≡ replyOf (call .outcome)
   pub zero-is-passed : (r .number ≡ 0) ↔ Passed circuit schedule
   pub exact : (p : Passed circuit schedule) → IsExact (p .files)
@@ -164,7 +165,7 @@ pub data EraseComesTo (file : File) : Outcome → Type 0 where
 
 pub record ErasePromise (schedule out : Bytes) (r : Reply) (after : Bytes) : Type 0 where
   pub inverse : IsInverse eraseContext schedule
-  pub call : TheOutcome (OnceRead eraseContext schedule 1 EraseComesTo)
+  pub call : TheOutcome (OnceRead (readText eraseContext schedule) 1 EraseComesTo)
   pub replies : Lent (call .outcome) out r after
 
 -- ---- least level
@@ -197,6 +198,6 @@ pub data LeastComesTo (file : File) : Outcome → Type 0 where
 
 pub record LeastPromise (circuit : Bytes) (r : Reply) : Type 0 where
   pub inverse : IsInverse circuitContext circuit
-  pub call : TheOutcome (OnceRead circuitContext circuit 1 LeastComesTo)
+  pub call : TheOutcome (OnceRead (readText circuitContext circuit) 1 LeastComesTo)
   pub reply : r ≡ replyOf (call .outcome)
   pub too-few-iff : (file : File) → readText circuitContext circuit ≡ read file → (r .number ≡ 6) ↔ (Fits file 60 → ⊥)

@@ -19,9 +19,8 @@ use Rattle.model.specs.Machine.{Run, finished, stopped, run}
 use Rattle.model.specs.Answers.{checkMachine}
 use Rattle.text.specs.Files.{readText, scheduleContext}
 use Rattle.services.specs.declared.Reply.{Reply}
-use Rattle.services.specs.Outcomes.{Outcome, writes, passes, fitsAt, refuses}
-use Rattle.services.specs.Outcomes.{lent, replyOf}
-use Rattle.services.specs.Calls.{planOutcome, checkOutcome, eraseOutcome, leastOutcome}
+use Rattle.services.specs.Outcomes.{Outcome, writes, passes, fitsAt, refuses, lent, replyOf}
+use Rattle.services.specs.Calls.{planOutcome, checkOutcome, eraseOutcome, leastOutcome, fromRisingOutcome}
 use Rattle.services.specs.Program.{programText}
 
 -- a text "shown here with spaces for tabs"
@@ -29,14 +28,15 @@ abbrev pub shown : String → Bytes
 shown Text.[] = []
 shown (Text._∷_ c rest) = cond (eqb (code c) 32) 9 (code c) ∷ shown rest
 
--- Plan this circuit; give its least top level; check this schedule against a circuit; erase this schedule; what a call comes to with
--- a buffer of so many bytes; its whole reply; what the program prints of this circuit; scale and level of a value of this schedule under
--- the rules.
+-- Plan this circuit; give its least top level; check this schedule against a circuit; erase this schedule; make a schedule of this
+-- listing; what a call comes to with a buffer of so many bytes; its whole reply; what the program prints of this circuit; scale and level
+-- of a value of this schedule under the rules.
 pub data Question : Type 0 where
   plan : Question
   least : Question
   checkAgainst : String → Question
   erase : Question
+  fromRising : Question
   withRoom : ℕ → Question → Question
   replyTo : Question → Question
   program : Question
@@ -86,6 +86,7 @@ findingOf plan input = comesTo (planOutcome input)
 findingOf least input = comesTo (leastOutcome input)
 findingOf (checkAgainst circuit) input = comesTo (checkOutcome (shown circuit) input)
 findingOf erase input = comesTo (eraseOutcome input)
+findingOf fromRising input = comesTo (fromRisingOutcome input)
 findingOf (withRoom room question) input = onOutcome (λ o. comesTo (lent room o)) (findingOf question input)
 findingOf (replyTo question) input = onOutcome (λ o. givenBy (replyOf o)) (findingOf question input)
 findingOf program input = prints (programText input)
@@ -119,15 +120,15 @@ abbrev pub refusedAt : ℕ → ℕ → ℕ → Finding
 refusedAt n f p = comesTo (refuses n f p)
 
 -- "circuit 60 20 2 / in / const 7 / mul 0 1 / mul 2 1 / mul 3 3 / out 4" and what the program writes for it
-abbrev pub listing : String
-listing = "circuit 60 20 2\nin\nconst 7\nmul 0 1\nmul 2 1\nmul 3 3\nout 4\n"
+abbrev pub example : String
+example = "circuit 60 20 2\nin\nconst 7\nmul 0 1\nmul 2 1\nmul 3 3\nout 4\n"
 
-abbrev pub listingPlan : String
-listingPlan = "schedule 60 20 2\nin\nconst 7\nenc 1 20 2\nmul 0 2\nenc 1 20 2\nmul 3 4\nus 5 20\nrs 6 1\nus 5 20\nrs 8 1\nmul 7 9\nout 10\n"
+abbrev pub examplePlan : String
+examplePlan = "schedule 60 20 2\nin\nconst 7\nenc 1 20 2\nmul 0 2\nenc 1 20 2\nmul 3 4\nus 5 20\nrs 6 1\nus 5 20\nrs 8 1\nmul 7 9\nout 10\n"
 
 -- the same circuit scheduled by hand, with the common conversions written once
-abbrev pub listingByHand : String
-listingByHand = "schedule 60 20 2\nin\nconst 7\nenc 1 20 2\nmul 0 2\nmul 3 2\nus 4 20\nrs 5 1\nmul 6 6\nout 7\n"
+abbrev pub exampleByHand : String
+exampleByHand = "schedule 60 20 2\nin\nconst 7\nenc 1 20 2\nmul 0 2\nmul 3 2\nus 4 20\nrs 5 1\nmul 6 6\nout 7\n"
 
 -- x to the power 4, L = 1; x to the power 16, L = 2
 abbrev pub fourth : String
@@ -184,24 +185,24 @@ table =
     ∷ row "circuit 60 20 2\nconst 007\n" plan (refusedAt 1 1 2)
     ∷ row "" plan (refusedAt 1 1 1)
     -- "Program input … Output, whole"
-    ∷ row listing program (prints (shown listingPlan))
+    ∷ row example program (prints (shown examplePlan))
     -- our own: a circuit that the program refuses
     ∷ row fourth program (prints (shown "refused 6 4\n"))
     -- the plan passes, and so does a schedule that is not the plan
-    ∷ row listing plan (written listingPlan)
-    ∷ row listingPlan (checkAgainst listing) (comesTo passes)
-    ∷ row listingByHand (checkAgainst listing) (comesTo passes)
+    ∷ row example plan (written examplePlan)
+    ∷ row examplePlan (checkAgainst example) (comesTo passes)
+    ∷ row exampleByHand (checkAgainst example) (comesTo passes)
     -- the plan's text has 111 bytes: a buffer of that length is enough, and none below it
-    ∷ row listing (withRoom 111 plan) (written listingPlan)
-    ∷ row listing (withRoom 110 plan) (refusedAt 13 0 0)
+    ∷ row example (withRoom 111 plan) (written examplePlan)
+    ∷ row example (withRoom 110 plan) (refusedAt 13 0 0)
     ∷ row "schedule 60 20 2\nin\nus 0 7\n" (withRoom 19 erase) (written "circuit 60 20 2\nin\n")
     ∷ row "schedule 60 20 2\nin\nus 0 7\n" (withRoom 18 erase) (refusedAt 13 0 0)
     -- whole replies: nothing refused is number, file and place 0, and a length where a text or a level is given; a refusal has length 0
-    ∷ row listing (replyTo (withRoom 111 plan)) (gives 0 0 0 111)
-    ∷ row listing (replyTo (withRoom 110 plan)) (gives 13 0 0 0)
+    ∷ row example (replyTo (withRoom 111 plan)) (gives 0 0 0 111)
+    ∷ row example (replyTo (withRoom 110 plan)) (gives 13 0 0 0)
     ∷ row fourth (replyTo (withRoom 111 plan)) (gives 6 1 4 0)
-    ∷ row listingByHand (replyTo (checkAgainst listing)) (gives 0 0 0 0)
-    ∷ row listingByHand (replyTo (checkAgainst fourth)) (gives 12 1 1 0)
+    ∷ row exampleByHand (replyTo (checkAgainst example)) (gives 0 0 0 0)
+    ∷ row exampleByHand (replyTo (checkAgainst fourth)) (gives 12 1 1 0)
     ∷ row "schedule 60 20 2\nin\nms 0 3\n" (replyTo (checkAgainst "circuit 60 20 2\nin\n")) (gives 9 2 3 0)
     ∷ row "schedule 60 20 2\nin\nus 0 7\n" (replyTo (withRoom 19 erase)) (gives 0 0 0 19)
     ∷ row "schedule 60 20 2\nneg 0\n" (replyTo (withRoom 19 erase)) (gives 4 1 2 0)
@@ -230,8 +231,8 @@ table =
     ∷ row "schedule 60 20 61\n" (checkAgainst "circuit 60 20 0\n") (refusedAt 2 1 1)
     ∷ row "schedule 60 20 61\n" (checkAgainst "circuit 60 20 2\n") (refusedAt 2 2 1)
     -- 12: another line, a longer erasure, a shorter one, another header; and before the rules
-    ∷ row listingByHand (checkAgainst "circuit 60 20 2\nin\nmul 0 0\n") (refusedAt 12 1 3)
-    ∷ row listingByHand (checkAgainst "circuit 60 20 2\nin\nconst 7\nmul 0 1\nmul 2 1\nmul 3 3\n") (refusedAt 12 1 7)
+    ∷ row exampleByHand (checkAgainst "circuit 60 20 2\nin\nmul 0 0\n") (refusedAt 12 1 3)
+    ∷ row exampleByHand (checkAgainst "circuit 60 20 2\nin\nconst 7\nmul 0 1\nmul 2 1\nmul 3 3\n") (refusedAt 12 1 7)
     ∷ row "schedule 60 20 2\nin\n" (checkAgainst "circuit 60 20 2\nin\nout 0\n") (refusedAt 12 1 3)
     ∷ row "schedule 60 20 2\nin\n" (checkAgainst "circuit 60 20 1\nin\n") (refusedAt 12 1 1)
     ∷ row "schedule 60 20 1\nin\nus 0 41\n" (checkAgainst "circuit 60 20 1\nin\nin\n") (refusedAt 12 1 3)

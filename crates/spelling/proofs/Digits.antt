@@ -1,4 +1,4 @@
--- The digits of a number as a program makes them: one to three digits, or the digits of a tenth of it and one more; and how many there are.
+-- The digits of a number as a program makes them: one to three digits, or the digits of a hundredth of it and two more; and how many there are.
 -- Assumes nothing.
 use Prim.Native.Nat.{ℕ, zero, suc, _+_, _/_, _%_, _^_, _≤_, _<_}
 use mathlib.Core.Bool.{Bool, true, false}
@@ -60,7 +60,7 @@ decimal-high n h f =
     let small = f .fits in
     more-digits 19 n h ∙ ap (λ (digits : List ℕ). digits ++ ((48 + n % 10) ∷ [])) (one-place-more 18 (n / 10) (omega arith))
 
--- ---- put digit by digit: numbers of one, two and three digits, and any other after its tenth
+-- ---- put digit by digit: numbers of one, two and three digits, and any other after its hundredth
 in-one : (n : ℕ) → n < 10 → decimal n ≡ lastDigit n ∷ []
 in-one n h = decimal-low n h ∙ ap (λ (d : ℕ). (48 + d) ∷ []) (omega arith)
 
@@ -107,18 +107,34 @@ module _ (s : Bytes) (at n : ℕ) (l : at + length (decimal n) ≤ length s) whe
           r t next
 
   module _ (h : 1000 ≤ n) (f : Fits w32 n) where
+    tenths : n / 10 / 10 ≡ n / 100
+    tenths = omega arith
+
+    front : decimal (n / 10) ≡ decimal (n / 100) ++ (lastDigit (n / 10) ∷ [])
+    front = rw tenths at (decimal-high (n / 10) (omega arith) (record { fits = omega (arith, f .fits) }))
+
     more : decimal n ≡ decimal (n / 10) ++ (lastDigit n ∷ [])
     more = decimal-high n (omega arith) f
 
-    pub tenth-room : at + length (decimal (n / 10)) ≤ length s
-    tenth-room = omega (arith, ap length more, length-append (decimal (n / 10)) (lastDigit n ∷ []))
+    front-room : at + length (decimal (n / 10)) ≤ length s
+    front-room = omega (arith, ap length more, length-append (decimal (n / 10)) (lastDigit n ∷ []))
 
-    module _ (p : ℕ) (s1 : Bytes) (tenth : Put s at (decimal (n / 10)) p s1) where
-      pub last-room : length s1 ≡ length s → p < length s1
-      last-room k = omega (arith, ap length more, length-append (decimal (n / 10)) (lastDigit n ∷ []), tenth .place)
+    pub hundredth-room : at + length (decimal (n / 100)) ≤ length s
+    hundredth-room = omega (arith, front-room, ap length front, length-append (decimal (n / 100)) (lastDigit (n / 10) ∷ []))
 
-      pub put-last-digit : (r : ℕ) (t : Bytes) → Put s1 p (lastDigit n ∷ []) r t → Put s at (decimal n) r t
-      put-last-digit r t next = put-both s at (decimal (n / 10)) (lastDigit n ∷ []) (decimal n) l more p s1 tenth r t next
+    module _ (p : ℕ) (s1 : Bytes) (hundredth : Put s at (decimal (n / 100)) p s1) where
+      pub next-room : length s1 ≡ length s → p < length s1
+      next-room k = omega (arith, front-room, ap length front, length-append (decimal (n / 100)) (lastDigit (n / 10) ∷ []), hundredth .place)
+
+      module _ (q : ℕ) (s2 : Bytes) (next : Put s1 p (lastDigit (n / 10) ∷ []) q s2) where
+        tenth : Put s at (decimal (n / 10)) q s2
+        tenth = put-both s at (decimal (n / 100)) (lastDigit (n / 10) ∷ []) (decimal (n / 10)) front-room front p s1 hundredth q s2 next
+
+        pub last-room : length s1 ≡ length s → length s2 ≡ length s1 → q < length s2
+        last-room k j = omega (arith, ap length more, length-append (decimal (n / 10)) (lastDigit n ∷ []), tenth .place)
+
+        pub put-last-digits : (r : ℕ) (t : Bytes) → Put s2 q (lastDigit n ∷ []) r t → Put s at (decimal n) r t
+        put-last-digits r t last = put-both s at (decimal (n / 10)) (lastDigit n ∷ []) (decimal n) l more q s2 tenth r t last
 
 pub ruleset digit-puts = (
   digit-room,
@@ -128,9 +144,10 @@ pub ruleset digit-puts = (
   second-of-three-room,
   third-room,
   put-three-digits,
-  tenth-room,
+  hundredth-room,
+  next-room,
   last-room,
-  put-last-digit,
+  put-last-digits,
 )
 
 -- ---- how many there are

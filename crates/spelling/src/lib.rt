@@ -39,7 +39,7 @@ fn put_digit(out: &mut [u8], at: usize, n: u32) -> usize
     put_byte(out, at, b'0' + ((n % 10) as u8))
 }
 
-// Most numbers have one to three digits, which need no call for a tenth.
+// Most numbers have one to three digits, which need no call for a hundredth.
 fn put_number(out: &mut [u8], at: usize, n: u32) -> usize
     requires { ⌜ at + length (decimal n) ≤ length (now out) ⌝ }
     ensures { λ r. ⌜ Put (now (out .entry)) at (decimal n) r (now (out .exit)) ⌝ }
@@ -56,8 +56,9 @@ fn put_number(out: &mut [u8], at: usize, n: u32) -> usize
         let last = put_digit(out, next, n / 10);
         return put_digit(out, last, n);
     }
-    let next = put_number(out, at, n / 10);
-    put_digit(out, next, n)
+    let next = put_number(out, at, n / 100);
+    let last = put_digit(out, next, n / 10);
+    put_digit(out, last, n)
 }
 
 fn number_len(n: u32) -> usize

@@ -35,11 +35,11 @@ counted-at k (w ∷ ws) (suc n) t l =
 number-back : (n : ℕ) → n < 12 → wordNumber (wordFrom n) ≡ n
 number-back n l = counted-at 0 (NoWord ∷ words) n tt l ∙ omega arith
 
-past-words : (n : ℕ) → 12 ≤ n → wordFrom n ≡ NoWord
+pub past-words : (n : ℕ) → 12 ≤ n → wordFrom n ≡ NoWord
 past-words n l = List·getD-eq-default (NoWord ∷ words) NoWord l
 
 -- what is told of every number: where a word's table is that of the numbers of the words, and past them no word's is told
-each-number : {A : Type 0} (f : Word → A) (g : ℕ → A) → table f ≡ table (λ w. g (wordNumber w)) → (n : ℕ) → (12 ≤ n → f NoWord ≡ g n) → f (wordFrom n) ≡ g n
+pub each-number : {A : Type 0} (f : Word → A) (g : ℕ → A) → table f ≡ table (λ w. g (wordNumber w)) → (n : ℕ) → (12 ≤ n → f NoWord ≡ g n) → f (wordFrom n) ≡ g n
 each-number f g e n past =
     ⊎-elim (λ l. each-word f (λ w. g (wordNumber w)) e (wordFrom n) ∙ ap g (number-back n l)) (λ l. ap f (past-words n l) ∙ past l) (below-or-not n 12)
 

@@ -14,15 +14,13 @@ use Rattle.rows.specs.Rows as Rows
 use Rattle.rows.proofs.FieldLaws.{fields-length}
 use Rattle.rows.proofs.LengthLaws as Lengths
 use Rattle.rows.proofs.LengthLaws.{said-most, text-length}
-use Rattle.model.specs.declared.Grammar.{Grammar}
-use Rattle.model.specs.declared.Grammar.the-variants.{Circuit, Schedule}
 use Rattle.model.specs.declared.Line.{Line}
 use Rattle.model.specs.Scales.{headerNumbers}
 use Rattle.model.specs.Words.{entry}
 use Rattle.model.specs.Files.{File, wordOf, rowOf, said}
 use Rattle.model.proofs.Tests.{and-first, and-second}
 use Rattle.model.proofs.EveryWord.{every-word}
-use Rattle.text.specs.Files.{headerWord, headerForm, lineForm, fileText}
+use Rattle.text.specs.Files.{headerUnder, lineForm, textUnder}
 use Rattle.text.proofs.WordLaws.{said-held}
 
 -- ---- lines: a word has at most 5 bytes and 3 fields
@@ -40,17 +38,13 @@ lines-most [] = none
 lines-most (x ∷ xs) = one (line-most x) (lines-most xs)
 
 -- ---- the file
-header-most : (g : Grammar) → length (headerWord g) ≤ 8
-header-most Circuit = omega arith
-header-most Schedule = omega arith
-
-pub text-most : (g : Grammar) (f : File) → length (fileText g f) ≤ 72 + 72 * length (f .lines) + 3
+pub text-most : (word : Bytes) (f : File) → length word ≤ 8 → length (textUnder word f) ≤ 72 + 72 * length (f .lines) + 3
 unfolding Rows.fileText
-text-most g f =
-    let numbers = said-most (headerWord g) (headerNumbers (f .header)) in
+text-most word f short =
+    let numbers = said-most word (headerNumbers (f .header)) in
     let lines = Lengths.text-most 71 (lines-most (f .lines)) in
     let count = length-map (f .lines) (lineForm .text) in
-    omega (arith, header-most g, text-length (headerForm g .text (f .header)) (map (lineForm .text) (f .lines)))
+    omega (arith, text-length (headerUnder word .text (f .header)) (map (lineForm .text) (f .lines)))
 
 -- the line with which the program refuses
 pub two-numbers-most : (word : Bytes) (a b : ℕ) → length (textOf (saidText word (pos a ∷ pos b ∷ []) ∷ [])) ≤ length word + 45

@@ -28,8 +28,11 @@ headerWord Schedule = ascii "schedule"
 abbrev pub headerOf : List ℤ → Header
 headerOf ns = record { factor = nth ns 0; waterline = nth ns 1; top = nth ns 2 }
 
+abbrev pub headerUnder : Bytes → Form Header
+headerUnder word = made headerOf headerNumbers (titled word headerFields)
+
 abbrev pub headerForm : Grammar → Form Header
-headerForm g = made headerOf headerNumbers (titled (headerWord g) headerFields)
+headerForm g = headerUnder (headerWord g)
 
 -- ---- a line: any word of the table; a word that the file does not have fails the line's first test
 abbrev pub vocabulary : Vocabulary Word
@@ -83,5 +86,8 @@ format c =
 abbrev pub readText : Context → Bytes → Reading File
 readText c text = readFile (format c) text
 
+abbrev pub textUnder : Bytes → File → Bytes
+textUnder word file = Rows.fileText (headerUnder word) lineForm file
+
 abbrev pub fileText : Grammar → File → Bytes
-fileText g file = Rows.fileText (headerForm g) lineForm file
+fileText g file = textUnder (headerWord g) file

@@ -2,9 +2,9 @@
 use Prim.Native.Nat.{ℕ, zero, suc, _+_, _-_, _≤_, _<_}
 use native.Mathlib.Omega.{arith}
 use mathlib.Core.Path.{_≡_, refl, sym, ap, ap₂, subst, _∙_}
-use mathlib.Core.List.{[], _∷_}
+use mathlib.Core.List.{List, [], _∷_, _++_, map}
 use mathlib.Core.Bool.{Bool, true, false, cond, not, _&&_, _||_}
-use mathlib.Core.Option.{Option, none, some}
+use mathlib.Core.Option.{Option, none, some, Option·map}
 use borrow.Author.Needs.{needs}
 use borrow.Author.Tests.{not-true, not-false, lt-ltb, le-ltb, ne-eqb}
 use lib.Dec.{T, eqb, leb, leb→le}
@@ -18,19 +18,23 @@ use Rattle.rows.proofs.FormLaws.{named-is}
 use Rattle.model.specs.declared.Grammar.{Grammar}
 use Rattle.model.specs.declared.Grammar.the-variants.{Circuit, Schedule}
 use Rattle.model.specs.declared.Word.{Word}
-use Rattle.model.specs.declared.Word.the-variants.{In, Const, Neg, Rot, Add, Mul, Out, Enc, Us, NoWord}
+use Rattle.model.specs.declared.Word.the-variants.{In, Const, Neg, Rot, Add, Mul, Out, Enc, Rs, Us, NoWord}
 use Rattle.model.specs.Words.{entry, words, hasWord}
 use Rattle.model.specs.Numbering.{sameWord}
 use Rattle.model.proofs.Tests.{and-first, and-second}
 use Rattle.model.proofs.EveryWord.{each-word, every-word, same-word}
 use Rattle.text.specs.Files.{vocabulary}
 use Rattle.text.proofs.WordLaws.{word-of}
+use Rattle.listings.specs.declared.Levels.{Levels}
+use Rattle.listings.specs.declared.Levels.the-variants.{Falling, Rising}
+use Rattle.listings.specs.Listings.{ListedWord, word, ds, wordBytes}
 use Rattle.forms.specs.Along.{fieldIn, endsField, isPlain}
 use Rattle.forms.proofs.WordLaws.{field-short}
 use Rattle.tables.specs.Records.{wordNumber}
 use Rattle.words.specs.declared.Spelled.{Spelled}
 use Rattle.words.specs.declared.WordRow.{WordRow}
 use Rattle.words.specs.Words.{orNoWord, wordIn, firstByte, candidateBy, candidateOf, wordIf, spelledAt, rowOf}
+use Rattle.words.specs.Words.{wordsOf, vocabularyOf, orNone, listedIn, beginsDownscale, heldWord, rowIn, wordFound, listedWord, pastWord}
 
 -- ---- the only word that can stand at a place, by the first two bytes there
 module _ (s : Bytes) (at : ℕ) where
@@ -169,28 +173,123 @@ candidate-word t = go (sameBytes (fieldIn t) (entry (candidateOf t) .bytes)) ref
         sym (ap (λ (f : Bytes). orNoWord (named vocabulary words f)) text ∙ named-itself (candidateOf t))
     go false h = other (named vocabulary words (fieldIn t)) refl h
 
-module _ (t : Bytes) (at : ℕ) (w : Word) (c : w ≡ candidateOf t) (f : Spelled) (e : f ≡ spelledAt at (wordIf w t)) where
-  pub found-word : f .word ≡ wordIn t
-  found-word = ap (λ (g : Spelled). g .word) e ∙ ap (λ (v : Word). wordIf v t) c ∙ candidate-word t
+-- ---- the words of a file that counts levels so
+pub named-listed : (levels : Levels) (ws : List Word) (f : Bytes) → named (vocabularyOf levels) (map word ws) f ≡ Option·map word (named vocabulary ws f)
+unfolding named
+named-listed levels [] f = refl
+named-listed levels (w ∷ ws) f = go (sameBytes f (entry w .bytes)) (named vocabulary ws f) (named-listed levels ws f)
+  where
+    go : (b : Bool) {o : Option ListedWord} (p : Option Word) → o ≡ Option·map word p → cond b (some (word w)) o ≡ Option·map word (cond b (some w) p)
+    go true p e = refl
+    go false p e = e
 
-  pub found-end : f .end ≡ at + length (entry (f .word) .bytes)
-  found-end = ap (λ (g : Spelled). g .end) e ∙ ap (λ (g : Spelled). at + length (entry (g .word) .bytes)) (sym e)
+-- where the words fail, the one after them
+orElse : Option ListedWord → Option ListedWord → Option ListedWord
+orElse none more = more
+orElse (some v) more = some v
+
+named-append : (levels : Levels) (ws more : List ListedWord) (f : Bytes)
+    → named (vocabularyOf levels) (ws ++ more) f ≡ orElse (named (vocabularyOf levels) ws f) (named (vocabularyOf levels) more f)
+unfolding named orElse
+named-append levels [] more f = refl
+named-append levels (w ∷ ws) more f = go (sameBytes f (wordBytes w)) (named (vocabularyOf levels) ws f) (named-append levels ws more f)
+  where
+    go : (b : Bool) {o : Option ListedWord} (p : Option ListedWord) → o ≡ orElse p (named (vocabularyOf levels) more f)
+        → cond b (some w) o ≡ orElse (cond b (some w) p) (named (vocabularyOf levels) more f)
+    go true p e = refl
+    go false p e = e
+
+named-rising : (f : Bytes) → named (vocabularyOf Rising) (wordsOf Rising) f
+    ≡ orElse (Option·map word (named vocabulary words f)) (cond (sameBytes f (wordBytes ds)) (some ds) none)
+unfolding named
+named-rising f =
+    named-append Rising (map word words) (ds ∷ []) f
+    ∙ ap (λ (o : Option ListedWord). orElse o (cond (sameBytes f (wordBytes ds)) (some ds) none)) (named-listed Rising words f)
+
+or-none : (o : Option Word) → orNone (Option·map word o) ≡ word (orNoWord o)
+or-none none = refl
+or-none (some w) = refl
+
+-- the word is `ds`, which is no word of the table, or the word of the table
+downscale-none : (t : Bytes) → sameBytes (fieldIn t) (wordBytes ds) ≡ true → named vocabulary words (fieldIn t) ≡ none
+unfolding named sameBytes
+downscale-none t e = ap (named vocabulary words) (same-bytes (fieldIn t) (wordBytes ds) (subst T (sym e) tt))
+
+pub listed-downscale : (levels : Levels) (t : Bytes) → beginsDownscale levels t ≡ true → listedIn levels t ≡ ds
+unfolding listedIn beginsDownscale orElse
+listed-downscale Falling t e = absurd (let z : _≡_ {A = ℕ} 0 1 = cc in omega arith)
+listed-downscale Rising t e = ap orNone (named-rising (fieldIn t)) ∙ rw (downscale-none t e, e)
+
+pub listed-word : (levels : Levels) (t : Bytes) → beginsDownscale levels t ≡ false → listedIn levels t ≡ word (wordIn t)
+unfolding listedIn beginsDownscale wordIn orElse
+listed-word Falling t e = ap orNone (named-listed Falling words (fieldIn t)) ∙ or-none (named vocabulary words (fieldIn t))
+listed-word Rising t e = ap orNone (named-rising (fieldIn t)) ∙ rw e (go (named vocabulary words (fieldIn t)))
+  where
+    go : (o : Option Word) → orNone (orElse (Option·map word o) none) ≡ word (orNoWord o)
+    go none = refl
+    go (some w) = refl
+
+-- whether it is a circuit's word
+pub listed-kept : (levels : Levels) (t : Bytes) → hasWord Circuit (wordIn t) ≡ hasWord Circuit (heldWord (listedIn levels t))
+unfolding beginsDownscale wordIn
+listed-kept levels t = go (beginsDownscale levels t) refl
+  where
+    none-kept : (levels : Levels) → beginsDownscale levels t ≡ true → wordIn t ≡ NoWord
+    none-kept Falling e = absurd (let z : _≡_ {A = ℕ} 0 1 = cc in omega arith)
+    none-kept Rising e = ap orNoWord (downscale-none t e)
+
+    go : (b : Bool) → beginsDownscale levels t ≡ b → hasWord Circuit (wordIn t) ≡ hasWord Circuit (heldWord (listedIn levels t))
+    go true e = ap (hasWord Circuit) (none-kept levels e) ∙ sym (ap (λ (v : ListedWord). hasWord Circuit (heldWord v)) (listed-downscale levels t e))
+    go false e = sym (ap (λ (v : ListedWord). hasWord Circuit (heldWord v)) (listed-word levels t e))
+
+-- ---- the word as the code finds it
+module _ (levels : Levels) (s : Bytes) (at : ℕ) (b : Bool) (q : b ≡ beginsDownscale levels (drop at s)) where
+  abbrev t : Bytes
+  t = drop at s
+
+  pub downscale-found : b ≡ true → (r : WordRow) → r ≡ rowIn ds → record { word = Rs; row = r; end = at + 2 } ≡ wordFound (listedIn levels t) (pastWord at (listedIn levels t))
+  downscale-found h r e =
+      ap (λ (x : WordRow). record { word = Rs; row = x; end = at + 2 }) e
+      ∙ sym (ap (λ (v : ListedWord). wordFound v (pastWord at v)) (listed-downscale levels t (sym q ∙ h)))
+
+  pub word-found :
+      b ≡ false → (w : Word) → w ≡ candidateOf t → (f : Spelled) → f ≡ spelledAt at (wordIf w t) → (r : WordRow) → r ≡ rowOf (f .word) →
+      record { word = f .word; row = r; end = f .end } ≡ wordFound (listedIn levels t) (pastWord at (listedIn levels t))
+  word-found h w c f e r k =
+      let spelled : f ≡ spelledAt at (wordIn t) = e ∙ ap (λ (v : Word). spelledAt at (wordIf v t)) c ∙ ap (spelledAt at) (candidate-word t) in
+      ap (λ (x : WordRow). record { word = f .word; row = x; end = f .end }) k
+      ∙ ap (λ (g : Spelled). record { word = g .word; row = rowOf (g .word); end = g .end }) spelled
+      ∙ sym (ap (λ (v : ListedWord). wordFound v (pastWord at v)) (listed-word levels t (sym q ∙ h)))
+
+pub falling-none : (levels : Levels) (t : Bytes) → levels ≡ Falling → false ≡ beginsDownscale levels t
+unfolding beginsDownscale
+falling-none levels t e = rw e
+
+pub rising-downscale : (levels : Levels) (t : Bytes) (r : Bool) → levels ≡ Rising → r ≡ sameBytes (fieldIn t) (wordBytes ds) → r ≡ beginsDownscale levels t
+unfolding beginsDownscale
+rising-downscale levels t r e q = rw e q
+
+-- what the code has is what it was found as
+pub found-listed : (v : ListedWord) (end : ℕ) → listedWord (wordFound v end) ≡ v
+found-listed (word w) end = each-word (λ u. listedWord (wordFound (word u) end)) word refl w
+found-listed ds end = refl
 
 -- ---- a word of a file that was found is named by the first field
-pub word-named : (g : Grammar) (t : Bytes) (w : Word) → w ≡ wordIn t → T (hasWord g w) → named vocabulary words (fieldIn t) ≡ some w
-unfolding wordIn
-word-named g t w is has = go (named vocabulary words (fieldIn t)) refl (rw is at has)
+pub word-named : (levels : Levels) (g : Grammar) (t : Bytes) (v : ListedWord) → v ≡ listedIn levels t → T (hasWord g (heldWord v))
+    → named (vocabularyOf levels) (wordsOf levels) (fieldIn t) ≡ some v
+unfolding listedIn
+word-named levels g t v is has = go (named (vocabularyOf levels) (wordsOf levels) (fieldIn t)) refl (rw is at has)
   where
     none-has : (g : Grammar) → T (hasWord g NoWord) → ⊥
     none-has Circuit u = u
     none-has Schedule u = u
 
-    go : (o : Option Word) → named vocabulary words (fieldIn t) ≡ o → T (hasWord g (orNoWord o)) → o ≡ some w
+    go : (o : Option ListedWord) → named (vocabularyOf levels) (wordsOf levels) (fieldIn t) ≡ o → T (hasWord g (heldWord (orNone o))) → o ≡ some v
     go none e u = absurd (none-has g u)
-    go (some v) e u = ap some (sym (is ∙ ap orNoWord e))
+    go (some u) e h = ap some (sym (is ∙ ap orNone e))
 
-pub field-named : (g : Grammar) (t : Bytes) (w : Word) → w ≡ wordIn t → T (hasWord g w) → fieldIn t ≡ entry w .bytes
-field-named g t w is has = sym (named-is vocabulary words (fieldIn t) (word-named g t w is has))
+pub field-named : (levels : Levels) (g : Grammar) (t : Bytes) (v : ListedWord) → v ≡ listedIn levels t → T (hasWord g (heldWord v)) → fieldIn t ≡ wordBytes v
+field-named levels g t v is has = sym (named-is (vocabularyOf levels) (wordsOf levels) (fieldIn t) (word-named levels g t v is has))
 
 -- ---- what a word's number tells: one test over the table each
 module _ (w : Word) (n : ℕ) (q : n ≡ wordNumber w) where
@@ -215,4 +314,6 @@ module _ (w : Word) (n : ℕ) (q : n ≡ wordNumber w) where
 pub circuit-kept : (g : Grammar) (w : Word) (r k : Bool) → g ≡ Circuit → k ≡ hasWord Circuit w → r ≡ k → r ≡ hasWord g w
 circuit-kept g w r k e q is = rw e (is ∙ q)
 
-pub ruleset word-laws = (needs, found-word, found-end, amount-by, constant-by, kept-none, kept-few, schedule-some, circuit-kept)
+pub ruleset found-laws = (needs, not-true, not-false, falling-none, rising-downscale, downscale-found, word-found)
+
+pub ruleset word-laws = (needs, amount-by, constant-by, kept-none, kept-few, schedule-some, circuit-kept)

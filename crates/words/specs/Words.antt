@@ -1,23 +1,27 @@
--- What the code uses: the word of a line's first field, how it is found, and its row.
+-- What the code uses: the word of a line's first field, how it is found, and its row; also of a line of a listing.
 use Prim.Native.Nat.{ℕ, _+_}
-use mathlib.Core.Bool.{Bool, cond}
-use mathlib.Core.List.{List, [], _∷_}
+use mathlib.Core.Bool.{Bool, false, cond}
+use mathlib.Core.List.{List, [], _∷_, _++_, map}
 use mathlib.Core.Option.{Option, none, some}
 use lib.Dec.{eqb, ltb}
 use lib.IntN.{ℤ, pos, negℤ}
 use lib.ListN.{length, getD}
 use Rattle.fields.specs.Pieces.{Bytes, sameBytes}
 use Rattle.rows.specs.Fields.{Holds, operand, ranged, upToTop, amount}
-use Rattle.rows.specs.Forms.{named}
+use Rattle.rows.specs.Forms.{Vocabulary, named}
 use Rattle.model.specs.declared.Word.{Word}
 use Rattle.model.specs.declared.Word.the-variants.{In, Const, Neg, Rot, Add, Mul, Out, Enc, Rs, Ms, Us, NoWord}
 use Rattle.model.specs.Words.{Asks, noOperand, aCiphertext, aConstant, aPair, entry, words, isOperand}
 use Rattle.text.specs.Files.{vocabulary}
+use Rattle.listings.specs.declared.Levels.{Levels}
+use Rattle.listings.specs.declared.Levels.the-variants.{Falling, Rising}
+use Rattle.listings.specs.Listings.{ListedWord, word, ds, wordBytes, wordFields}
 use Rattle.forms.specs.Along.{fieldIn}
 use Rattle.words.specs.declared.OperandsAsked.{OperandsAsked}
 use Rattle.words.specs.declared.OperandsAsked.the-variants.{NoOperand, Ciphertext, Constant, Pair}
 use Rattle.words.specs.declared.WordRow.{WordRow}
 use Rattle.words.specs.declared.Spelled.{Spelled}
+use Rattle.words.specs.declared.WordAt.{WordAt}
 
 abbrev pub orNoWord : Option Word → Word
 orNoWord none = NoWord
@@ -81,13 +85,54 @@ largestIn (ranged low high ∷ fs) = high
 largestIn (upToTop ∷ fs) = 0
 largestIn (amount most ∷ fs) = most
 
-abbrev pub rowOf : Word → WordRow
-rowOf w =
-    let fs = entry w .fields in
+-- of a word that has these fields and asks this of its operands
+abbrev pub rowWith : List Holds → Asks → WordRow
+rowWith fs asks =
     record {
       fields = length fs;
       operands = operandsIn fs;
       least = leastIn fs;
       largest = largestIn fs;
-      asks = operandsAsked (entry w .asks);
+      asks = operandsAsked asks;
     }
+
+abbrev pub rowOf : Word → WordRow
+rowOf w = rowWith (entry w .fields) (entry w .asks)
+
+-- ---- the words of a file that counts levels so: `ds` where they rise
+abbrev pub wordsOf : Levels → List ListedWord
+wordsOf Falling = map word words
+wordsOf Rising = map word words ++ (ds ∷ [])
+
+abbrev pub vocabularyOf : Levels → Vocabulary ListedWord
+vocabularyOf levels = record { words = wordsOf levels; bytes = wordBytes; fields = wordFields }
+
+abbrev pub orNone : Option ListedWord → ListedWord
+orNone none = word NoWord
+orNone (some v) = v
+
+-- the word that a text's first field is
+unfoldable pub listedIn : Levels → Bytes → ListedWord
+listedIn levels t = orNone (named (vocabularyOf levels) (wordsOf levels) (fieldIn t))
+
+unfoldable pub beginsDownscale : Levels → Bytes → Bool
+beginsDownscale Falling t = false
+beginsDownscale Rising t = sameBytes (fieldIn t) (wordBytes ds)
+
+-- the word that a table holds it as, and its row in code
+abbrev pub heldWord : ListedWord → Word
+heldWord (word w) = w
+heldWord ds = Rs
+
+abbrev pub rowIn : ListedWord → WordRow
+rowIn v = rowWith (wordFields v) (entry (heldWord v) .asks)
+
+-- the word as the code has it, and from there the word: a `ds` has fewer fields than what it is held as
+abbrev pub wordFound : ListedWord → ℕ → WordAt
+wordFound v end = record { word = heldWord v; row = rowIn v; end = end }
+
+abbrev pub listedWord : WordAt → ListedWord
+listedWord found = cond (ltb (found .row .fields) (length (entry (found .word) .fields))) ds (word (found .word))
+
+abbrev pub pastWord : ℕ → ListedWord → ℕ
+pastWord at v = at + length (wordBytes v)

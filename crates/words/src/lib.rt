@@ -1,4 +1,5 @@
 // The words of the lines: which one stands at a place, and what its row says of the fields after it.
+use listings::Levels;
 use model::Grammar;
 use model::Word;
 ghost use mathlib.Core.Path.{_≡_};
@@ -8,7 +9,7 @@ ghost use Rattle.model.specs.declared.Grammar.the-variants.{Circuit};
 ghost use Rattle.model.specs.declared.Word.the-variants.{Const, Rot};
 ghost use Rattle.model.specs.Words.{entry, hasWord};
 ghost use Rattle.model.specs.Numbering.{sameWord};
-ghost use Rattle.words.specs.Words.{rowOf, wordIn, candidateOf, wordIf, spelledAt};
+ghost use Rattle.words.specs.Words.{rowOf, candidateOf, wordIf, spelledAt, beginsDownscale, listedIn, wordFound, pastWord};
 
 // What a word asks of its operands, which are its first fields.
 pub enum OperandsAsked {
@@ -136,13 +137,29 @@ fn spelled_at(word: Word, text: &[u8], at: usize) -> Spelled
     }
 }
 
-// The word that a line begins with.
-pub fn word_at(text: &[u8], at: usize) -> WordAt
+// Whether a listing's line begins with `ds`, which no other file has.
+fn is_downscale(levels: Levels, text: &[u8], at: usize) -> bool
     requires { ⌜ at ≤ length (now text) ⌝ }
-    ensures { λ r. ⌜ r .word ≡ wordIn (drop at (now (text .entry))) ⌝ }
-    ensures row { λ r. ⌜ r .row ≡ rowOf (r .word) ⌝ }
-    ensures end { λ r. ⌜ r .end ≡ at + length (entry (r .word) .bytes) ⌝ }
+    ensures { λ r. ⌜ r ≡ beginsDownscale levels (drop at (now (text .entry))) ⌝ }
 {
+    match levels {
+        Levels::Falling => false,
+        Levels::Rising => forms::is_word_at(text, at, b"ds"),
+    }
+}
+
+// The word that a line begins with, in a file that counts levels so. A `ds` is held as a rescale, with one field.
+pub fn word_at(levels: Levels, text: &[u8], at: usize) -> WordAt
+    requires { ⌜ at ≤ length (now text) ⌝ }
+    ensures { λ r. ⌜ r ≡ wordFound (listedIn levels (drop at (now (text .entry)))) (pastWord at (listedIn levels (drop at (now (text .entry))))) ⌝ }
+{
+    if is_downscale(levels, text, at) {
+        return WordAt {
+            word: Word::Rs,
+            row: row(1, 1, 0, 0, OperandsAsked::Ciphertext),
+            end: at + 2,
+        };
+    }
     let found = spelled_at(candidate(text, at), text, at);
     let word = found.word;
     WordAt {

@@ -8,13 +8,12 @@ use native.Mathlib.Omega.{arith}
 use lib.ListN.{length, getD, take, drop, length-append, length-map, take-append-drop}
 use lib.Seq.{take-suc, take-take}
 use Rattle.fields.specs.Pieces.{Bytes, lineFeed}
-use Rattle.model.specs.declared.Grammar.{Grammar}
 use Rattle.model.specs.declared.Line.{Line}
 use Rattle.model.specs.declared.Header.{Header}
 use Rattle.model.specs.declared.Line.the-variants.{Free}
 use Rattle.rows.specs.Lines.{textOf}
 use Rattle.rows.specs.Rows as Rows
-use Rattle.text.specs.Files.{headerForm, lineForm, fileText}
+use Rattle.text.specs.Files.{headerUnder, lineForm, textUnder}
 use Rattle.text.specs.Tables.{fileOf}
 use Rattle.tables.specs.Records.{lineOf, linesOf, held}
 use Rattle.spelling.specs.Put.{Put, Counted}
@@ -59,16 +58,16 @@ text-within records i n h =
     omega (arith, ap length texts, length-append (textTo records i) (linesText rest))
 
 -- ---- a whole file
-abbrev headerOf : Grammar → Header → Bytes
-headerOf g h = textOf (headerForm g .text h ∷ [])
+abbrev headerOf : Bytes → Header → Bytes
+headerOf word h = textOf (headerUnder word .text h ∷ [])
 
-module _ (g : Grammar) (h : Header) (records : List (List ℕ)) (count : ℕ) where
-  whole-text : fileText g (fileOf (held h records count)) ≡ headerOf g h ++ textTo records count
+module _ (word : Bytes) (h : Header) (records : List (List ℕ)) (count : ℕ) where
+  whole-text : textUnder word (fileOf (held h records count)) ≡ headerOf word h ++ textTo records count
   unfolding Rows.fileText textOf
-  whole-text = sym (append-assoc (headerForm g .text h) (lineFeed ∷ []) (textTo records count))
+  whole-text = sym (append-assoc (headerUnder word .text h) (lineFeed ∷ []) (textTo records count))
 
-  whole-length : length (fileText g (fileOf (held h records count))) ≡ length (headerOf g h) + length (textTo records count)
-  whole-length = ap length whole-text ∙ length-append (headerOf g h) (textTo records count)
+  whole-length : length (textUnder word (fileOf (held h records count))) ≡ length (headerOf word h) + length (textTo records count)
+  whole-length = ap length whole-text ∙ length-append (headerOf word h) (textTo records count)
 
 -- ---- counting: `total` is `first`, the header's length, and the length of the first i lines
 pub record Counting (records : List (List ℕ)) (count first total i : ℕ) : Type 0 where
@@ -98,11 +97,11 @@ counting-more records count first total i r x c h here line =
     }
 
 pub counting-done :
-    (g : Grammar) (h : Header) (records : List (List ℕ)) (count first total i : ℕ) → Counting records count first total i → count ≤ i →
-    Counted (headerOf g h) 72 first → Counted (fileText g (fileOf (held h records count))) 129096 total
-counting-done g h records count first total i c l header =
+    (word : Bytes) (h : Header) (records : List (List ℕ)) (count first total i : ℕ) → Counting records count first total i → count ≤ i →
+    Counted (headerOf word h) 72 first → Counted (textUnder word (fileOf (held h records count))) 129096 total
+counting-done word h records count first total i c l header =
     let all : i ≡ count = omega (arith, c .most) in
-    record { counted = omega (arith, rw all at (c .sum), header .counted, whole-length g h records count); bounded = omega (arith, c .bounded, c .few, c .most) }
+    record { counted = omega (arith, rw all at (c .sum), header .counted, whole-length word h records count); bounded = omega (arith, c .bounded, c .few, c .most) }
 
 pub ruleset countings = (counting-start, counting-more, counting-done)
 
@@ -116,18 +115,18 @@ pub record Writing (s : Bytes) (first : ℕ) (records : List (List ℕ)) (count 
   pub put : Put s first (textTo records i) at out
 
 module _
-    (g : Grammar) (h : Header) (records : List (List ℕ)) (count : ℕ) (buffer : Bytes) (few : count ≤ 1792)
-    (l : length (fileText g (fileOf (held h records count))) ≤ length buffer) where
-  pub header-room : 0 + length (headerOf g h) ≤ length buffer
-  header-room = omega (arith, whole-length g h records count)
+    (word : Bytes) (h : Header) (records : List (List ℕ)) (count : ℕ) (buffer : Bytes) (few : count ≤ 1792)
+    (l : length (textUnder word (fileOf (held h records count))) ≤ length buffer) where
+  pub header-room : 0 + length (headerOf word h) ≤ length buffer
+  header-room = omega (arith, whole-length word h records count)
 
-  module _ (first : ℕ) (s : Bytes) (header : Put buffer 0 (headerOf g h) first s) (k : length s ≡ length buffer) where
+  module _ (first : ℕ) (s : Bytes) (header : Put buffer 0 (headerOf word h) first s) (k : length s ≡ length buffer) where
     pub writing-start : length records ≡ 1792 → Writing s first records count s first 0
     writing-start all =
         record {
           few = few;
           all = all;
-          room = omega (arith, whole-length g h records count, header .place);
+          room = omega (arith, whole-length word h records count, header .place);
           most = omega arith;
           same = refl;
           put = put-nothing s first (textTo records 0) no-text;
@@ -135,12 +134,12 @@ module _
 
     pub writing-done :
         (out : Bytes) (at i : ℕ) → Writing s first records count out at i → count ≤ i →
-        Written buffer (fileText g (fileOf (held h records count))) at out
+        Written buffer (textUnder word (fileOf (held h records count))) at out
     writing-done out at i w end =
         let all : i ≡ count = omega (arith, w .most) in
-        let text : Bytes = fileText g (fileOf (held h records count)) in
+        let text : Bytes = textUnder word (fileOf (held h records count)) in
         let whole : Put buffer 0 text at out =
-        put-both buffer 0 (headerOf g h) (textTo records count) text (omega arith) (whole-text g h records count) first s header at out
+        put-both buffer 0 (headerOf word h) (textTo records count) text (omega arith) (whole-text word h records count) first s header at out
         (rw all at (w .put)) in
         record { counted = omega (arith, whole .place); bytes = whole .bytes ∙ rw (zero-add (length text)) }
 

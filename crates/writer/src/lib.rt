@@ -1,6 +1,5 @@
 // Writes the file that a table holds as text into a buffer that is lent, and says beforehand how long the text is.
 // A function put_.. writes from place `at` on and returns the place past what it wrote; one .._len says how many bytes that is.
-use model::Grammar;
 use model::Header;
 use model::Line;
 use tables::Record;
@@ -14,7 +13,7 @@ ghost use Rattle.rows.specs.Lines.{textOf};
 ghost use Rattle.model.specs.Words.{ascii};
 ghost use Rattle.text.specs.Tables.{fileOf};
 ghost use Rattle.tables.specs.Records.{held};
-ghost use Rattle.text.specs.Files.{headerForm, lineForm, fileText};
+ghost use Rattle.text.specs.Files.{headerUnder, lineForm, textUnder};
 ghost use Rattle.spelling.specs.Put.{Put, Counted};
 ghost use Rattle.writer.specs.Writing.{Written};
 
@@ -34,61 +33,19 @@ fn line_len(line: Line) -> usize
 }
 
 // ---- the header line: a word and three numbers
-fn put_header_fields(out: &mut [u8], at: usize, grammar: Grammar, header: Header) -> usize
-    requires { ⌜ at + length (headerForm grammar .text header) ≤ length (now out) ⌝ }
-    ensures { λ r. ⌜ Put (now (out .entry)) at (headerForm grammar .text header) r (now (out .exit)) ⌝ }
+fn put_header(out: &mut [u8], at: usize, word: &[u8], header: Header) -> usize
+    requires { ⌜ at + length (textOf (headerUnder (now word) .text header ∷ [])) ≤ length (now out) ⌝ }
+    ensures { λ r. ⌜ Put (now (out .entry)) at (textOf (headerUnder (now (word .entry)) .text header ∷ [])) r (now (out .exit)) ⌝ }
 {
-    match grammar {
-        Grammar::Circuit => spelling::put_three(
-            out,
-            at,
-            b"circuit",
-            header.factor,
-            header.waterline,
-            header.top,
-        ),
-        Grammar::Schedule => spelling::put_three(
-            out,
-            at,
-            b"schedule",
-            header.factor,
-            header.waterline,
-            header.top,
-        ),
-    }
-}
-
-fn header_fields_len(grammar: Grammar, header: Header) -> usize
-    ensures { λ r. ⌜ Counted (headerForm grammar .text header) 71 r ⌝ }
-{
-    match grammar {
-        Grammar::Circuit => spelling::three_len(
-            b"circuit",
-            header.factor,
-            header.waterline,
-            header.top,
-        ),
-        Grammar::Schedule => spelling::three_len(
-            b"schedule",
-            header.factor,
-            header.waterline,
-            header.top,
-        ),
-    }
-}
-
-fn put_header(out: &mut [u8], at: usize, grammar: Grammar, header: Header) -> usize
-    requires { ⌜ at + length (textOf (headerForm grammar .text header ∷ [])) ≤ length (now out) ⌝ }
-    ensures { λ r. ⌜ Put (now (out .entry)) at (textOf (headerForm grammar .text header ∷ [])) r (now (out .exit)) ⌝ }
-{
-    let next = put_header_fields(out, at, grammar, header);
+    let next = spelling::put_three(out, at, word, header.factor, header.waterline, header.top);
     spelling::put_byte(out, next, b'\n')
 }
 
-fn header_len(grammar: Grammar, header: Header) -> usize
-    ensures { λ r. ⌜ Counted (textOf (headerForm grammar .text header ∷ [])) 72 r ⌝ }
+fn header_len(word: &[u8], header: Header) -> usize
+    requires { ⌜ length (now word) ≤ 8 ⌝ }
+    ensures { λ r. ⌜ Counted (textOf (headerUnder (now (word .entry)) .text header ∷ [])) 72 r ⌝ }
 {
-    header_fields_len(grammar, header) + 1
+    spelling::three_len(word, header.factor, header.waterline, header.top) + 1
 }
 
 // ---- the line of a refusal
@@ -100,14 +57,15 @@ pub fn put_refused(out: &mut [u8], at: usize, number: u32, place: u32) -> usize
     spelling::put_byte(out, next, b'\n')
 }
 
-// ---- the file
+// ---- the file under a header word
 // How long the text is: at most 72 bytes for each of 1,793 lines.
-pub fn file_len(grammar: Grammar, header: Header, records: &[Record], count: usize) -> usize
+pub fn file_len<'a>(word: &'a [u8], header: Header, records: &'a [Record], count: usize) -> usize
+    requires { ⌜ length (now word) ≤ 8 ⌝ }
     requires { ⌜ length (now records) ≡ 1792 ⌝ }
     requires { ⌜ count ≤ 1792 ⌝ }
-    ensures { λ r. ⌜ Counted (fileText grammar (fileOf (held header (now (records .entry)) count))) 129096 r ⌝ }
+    ensures { λ r. ⌜ Counted (textUnder (now (word .entry)) (fileOf (held header (now (records .entry)) count))) 129096 r ⌝ }
 {
-    let mut total = header_len(grammar, header);
+    let mut total = header_len(word, header);
     let mut i: usize = 0;
     while i < count {
         let line = tables::line_at(records, i);
@@ -118,19 +76,19 @@ pub fn file_len(grammar: Grammar, header: Header, records: &[Record], count: usi
 }
 
 // Writes the text at the front of the buffer, of which nothing else changes, and returns its length.
-pub fn put_file(
+pub fn put_file<'a>(
     out: &mut [u8],
-    grammar: Grammar,
+    word: &'a [u8],
     header: Header,
-    records: &[Record],
+    records: &'a [Record],
     count: usize,
 ) -> usize
     requires { ⌜ length (now records) ≡ 1792 ⌝ }
     requires { ⌜ count ≤ 1792 ⌝ }
-    requires { ⌜ length (fileText grammar (fileOf (held header (now records) count))) ≤ length (now out) ⌝ }
-    ensures { λ r. ⌜ Written (now (out .entry)) (fileText grammar (fileOf (held header (now (records .entry)) count))) r (now (out .exit)) ⌝ }
+    requires { ⌜ length (textUnder (now word) (fileOf (held header (now records) count))) ≤ length (now out) ⌝ }
+    ensures { λ r. ⌜ Written (now (out .entry)) (textUnder (now (word .entry)) (fileOf (held header (now (records .entry)) count))) r (now (out .exit)) ⌝ }
 {
-    let mut at = put_header(out, 0, grammar, header);
+    let mut at = put_header(out, 0, word, header);
     let mut i: usize = 0;
     while i < count {
         let line = tables::line_at(records, i);

@@ -10,16 +10,54 @@ pub struct Input {
     pub schedule: Vec<u8>,
 }
 
-/// The examples that have a plan, by name.
-pub fn examples(folder: &Path) -> Vec<Input> {
+/// A listing in the rising-level dialect and a schedule; an empty one is not measured.
+pub struct Conversion {
+    pub name: String,
+    pub listing: Vec<u8>,
+    pub schedule: Vec<u8>,
+}
+
+/// The examples with this ending, by name.
+fn names(folder: &Path, ending: &str) -> Vec<String> {
     let mut names: Vec<String> = fs::read_dir(folder)
         .expect("the folder of the examples")
         .filter_map(|entry| entry.ok()?.file_name().into_string().ok())
-        .filter_map(|name| name.strip_suffix(".circuit").map(str::to_string))
+        .filter_map(|name| name.strip_suffix(ending).map(str::to_string))
         .collect();
     names.sort();
-    let load = |name: &str| fs::read(folder.join(name)).expect("an example file");
     names
+}
+
+/// The schedules of the examples that were written by hand.
+pub fn example_schedules(folder: &Path) -> Vec<(String, Vec<u8>)> {
+    let load = |name: &str| fs::read(folder.join(format!("{name}.schedule"))).expect("an example file");
+    names(folder, ".schedule").into_iter().map(|name| (name.clone(), load(&name))).collect()
+}
+
+/// Document 000, Fig. 2b and 2c, in its own dialect: the examples of these names write each downscale as an upscale and a rescale.
+pub const DOWNSCALED: [(&str, &str); 2] = [
+    ("cubed_sum.proactive", "rising 60 20 2/in/in/mul 0 0/mul 1 1/add 2 3/mul 4 4/rs 5 1/ds 4/mul 6 7/out 8/"),
+    ("cubed_sum.early", "rising 60 20 2/in/in/mul 0 0/mul 1 1/add 2 3/ds 4/mul 5 5/mul 6 5/out 7/"),
+];
+
+/// A text that is written with spaces for tabs and `/` for line ends.
+pub fn bytes(shown: &str) -> Vec<u8> {
+    shown.replace('/', "\n").replace(' ', "\t").into_bytes()
+}
+
+/// So many inputs and downscales: 100 and 846 become 1,792 lines, and one more is too many.
+pub fn downscales(inputs: usize, downscales: usize) -> Vec<u8> {
+    let mut text = format!("rising 60 20 2/{}", "in/".repeat(inputs));
+    for i in 0..downscales {
+        text.push_str(&format!("ds {}/", i % inputs));
+    }
+    bytes(&text)
+}
+
+/// The examples that have a plan, by name.
+pub fn examples(folder: &Path) -> Vec<Input> {
+    let load = |name: &str| fs::read(folder.join(name)).expect("an example file");
+    names(folder, ".circuit")
         .into_iter()
         .map(|name| Input {
             circuit: load(&format!("{name}.circuit")),

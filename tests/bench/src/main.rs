@@ -6,7 +6,7 @@
 mod inputs;
 mod plot;
 
-use inputs::Input;
+use inputs::{Conversion, Input};
 use reference::library::{self, Lent, Library, Service};
 use reference::services::{self, Reply};
 use std::hint::black_box;
@@ -15,7 +15,7 @@ use std::time::Instant;
 
 const ROOM: usize = 131_072;
 /// There are at least so many calls, so that no run passes on missing inputs.
-const LEAST_CALLS: usize = 68;
+const LEAST_CALLS: usize = 130;
 /// A measurement is the shortest of so many runs, each of about so many nanoseconds: a short run is seldom disturbed.
 const RUNS: usize = 150;
 const RUN_TIME: f64 = 150_000.0;
@@ -47,6 +47,8 @@ fn by_rust(call: &Call, out: &mut [u8]) -> Reply {
         Service::Check => services::check(&call.first, &call.second),
         Service::Erase => services::erase(&call.first, out),
         Service::LeastLevel => services::least_level(&call.first),
+        Service::FromRising => services::from_rising(&call.first, out),
+        Service::ToRising => services::to_rising(&call.first, out),
     }
 }
 
@@ -97,6 +99,62 @@ fn calls_of(input: &Input) -> Vec<(Call, usize)> {
     calls
 }
 
+fn calls_of_conversion(input: &Conversion) -> Vec<(Call, usize)> {
+    let both = [(Service::FromRising, "from rising", &input.listing), (Service::ToRising, "to rising", &input.schedule)];
+    let is_measured = |(_, _, text): &(Service, &'static str, &Vec<u8>)| !text.is_empty();
+    let call = |(service, name, text): (Service, &'static str, &Vec<u8>)| {
+        (Call { service, name, first: text.clone(), second: Vec::new() }, lines_of(text))
+    };
+    both.into_iter().filter(is_measured).map(call).collect()
+}
+
+/// What a service of the Rust version writes; none where it refuses.
+fn written(service: fn(&[u8], &mut [u8]) -> Reply, text: &[u8]) -> Option<Vec<u8>> {
+    let mut out = vec![0; ROOM];
+    let reply = service(text, &mut out);
+    out.truncate(reply.length as usize);
+    (reply.number == 0).then_some(out)
+}
+
+/// A schedule and its listing.
+fn turned(name: String, schedule: Vec<u8>) -> Option<Conversion> {
+    written(services::to_rising, &schedule).map(|listing| Conversion { name, listing, schedule })
+}
+
+/// The examples in the dialect, those of document 000 with its downscales too.
+fn example_conversions(folder: &Path) -> Vec<Conversion> {
+    let schedules = inputs::example_schedules(folder);
+    let downscaled = inputs::DOWNSCALED.iter().map(|(name, listing)| {
+        let listing = inputs::bytes(listing);
+        let converted = written(services::from_rising, &listing);
+        assert!(schedules.iter().any(|(known, schedule)| known == name && Some(schedule) == converted.as_ref()), "{name}");
+        Conversion { name: format!("{name} with ds"), listing, schedule: Vec::new() }
+    });
+    let downscaled: Vec<Conversion> = downscaled.collect();
+    let plans = inputs::examples(folder).into_iter().map(|input| (format!("{}, plan", input.name), input.schedule));
+    let turned = schedules.into_iter().chain(plans).filter_map(|(name, schedule)| turned(name, schedule));
+    downscaled.into_iter().chain(turned).collect()
+}
+
+/// Full files each way, files that are refused, and small ones.
+fn other_conversions() -> Vec<Conversion> {
+    let listing = |name: &str, listing: Vec<u8>| Conversion { name: name.into(), listing, schedule: Vec::new() };
+    let mut list = Vec::new();
+    for lines in [112, 224, 448, 896, 1792] {
+        list.push(turned(format!("{lines} lines"), inputs::long_schedule(lines).1).expect("a schedule that keeps the rules"));
+    }
+    list.push(listing("100 in and 846 ds", inputs::downscales(100, 846)));
+    list.push(listing("100 in and 847 ds, refused", inputs::downscales(100, 847)));
+    for (name, last) in [("a damaged last line", "x/"), ("a broken rule in the last line", "us 0 101/")] {
+        let schedule = [inputs::long_schedule(1791).1, inputs::bytes(last)].concat();
+        let listing = [b"rising", &schedule[b"schedule".len()..]].concat();
+        list.push(Conversion { name: name.into(), listing, schedule });
+    }
+    list.push(turned("a header alone".into(), inputs::bytes("schedule 60 20 2/")).expect("a file"));
+    list.push(listing("a header and one ds", inputs::bytes("rising 60 20 2/in/ds 0/")));
+    list
+}
+
 /// A circuit with its plan.
 fn planned(name: String, circuit: Vec<u8>) -> Input {
     let mut out = vec![0; ROOM];
@@ -138,6 +196,11 @@ fn rows(folder: &Path, runs: usize) -> Vec<Row> {
     let mut rows = Vec::new();
     for input in inputs::examples(folder).into_iter().chain(full_files()).chain(refused_files()) {
         for (call, lines) in calls_of(&input) {
+            rows.push(measure(&call, &input.name, lines, runs));
+        }
+    }
+    for input in example_conversions(folder).into_iter().chain(other_conversions()) {
+        for (call, lines) in calls_of_conversion(&input) {
             rows.push(measure(&call, &input.name, lines, runs));
         }
     }

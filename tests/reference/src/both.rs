@@ -9,6 +9,11 @@ use crate::services::{self, Reply};
 /// Room that holds every result.
 pub const AMPLE: usize = 32_768;
 
+/// Room for what a schedule or listing is erased or converted to: a `ds` becomes two lines, each less than twice as long.
+pub fn ample_for(text: &[u8]) -> usize {
+    AMPLE.min(4 * text.len() + 64)
+}
+
 const GUARD: usize = 32;
 
 /// Bytes that may stand behind an input: a reader that goes too far finds something it might take for a part of the file.
@@ -27,7 +32,7 @@ pub struct Call<'a> {
 /// What all sides agreed on.
 pub struct Outcome {
     pub reply: Reply,
-    /// The bytes written: empty unless plan or erase succeeded.
+    /// The bytes written: empty unless a service that writes succeeded.
     pub written: Vec<u8>,
 }
 
@@ -38,6 +43,7 @@ pub struct Both {
     pub coverage: Coverage,
     pub searches: Searches,
     pub runs: Runs,
+    pub trips: Trips,
 }
 
 /// Exhaustive searches, by what they came to.
@@ -70,10 +76,26 @@ impl Runs {
     }
 }
 
+/// Conversions into the other dialect and back, by where they began.
+#[derive(Clone, Copy, Default)]
+pub struct Trips {
+    /// Of a listing without `ds`.
+    pub of_listing: u64,
+    pub of_schedule: u64,
+}
+
+impl Trips {
+    pub fn add(&mut self, other: &Trips) {
+        self.of_listing += other.of_listing;
+        self.of_schedule += other.of_schedule;
+    }
+}
+
 impl Both {
     /// `show` prints every call and the replies.
     pub fn new(random: Random, show: bool) -> Both {
-        Both { random, show, calls: 0, coverage: Coverage::default(), searches: Searches::default(), runs: Runs::default() }
+        let (searches, runs, trips) = (Searches::default(), Runs::default(), Trips::default());
+        Both { random, show, calls: 0, coverage: Coverage::default(), searches, runs, trips }
     }
 
     pub fn plan(&mut self, circuit: &[u8], room: usize) -> Result<Outcome, String> {
@@ -90,6 +112,14 @@ impl Both {
 
     pub fn least_level(&mut self, circuit: &[u8]) -> Result<Outcome, String> {
         self.call(Call { service: Service::LeastLevel, first: circuit, second: &[], room: 0 })
+    }
+
+    pub fn from_rising(&mut self, listing: &[u8], room: usize) -> Result<Outcome, String> {
+        self.call(Call { service: Service::FromRising, first: listing, second: &[], room })
+    }
+
+    pub fn to_rising(&mut self, schedule: &[u8], room: usize) -> Result<Outcome, String> {
+        self.call(Call { service: Service::ToRising, first: schedule, second: &[], room })
     }
 
     fn call(&mut self, call: Call) -> Result<Outcome, String> {
@@ -142,6 +172,8 @@ fn reference_call(call: Call, out: &mut [u8]) -> Reply {
         Service::Check => services::check(call.first, call.second),
         Service::Erase => services::erase(call.first, out),
         Service::LeastLevel => services::least_level(call.first),
+        Service::FromRising => services::from_rising(call.first, out),
+        Service::ToRising => services::to_rising(call.first, out),
     }
 }
 

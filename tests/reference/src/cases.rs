@@ -4,3 +4,4 @@ pub mod damage;
 pub mod files;
 pub mod hand;
 pub mod limits;
+pub mod listings;

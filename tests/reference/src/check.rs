@@ -32,7 +32,7 @@ fn first_difference(circuit: &File, erased: &File) -> Option<u32> {
 }
 
 /// Fills in where the lines stand, up to the first that breaks a rule; for 9 and 10 also where that one would.
-fn keep_rules(schedule: &File, held: &mut [Standing; SCHEDULE_LINES]) -> Result<(), Refusal> {
+pub fn keep_rules(schedule: &File, held: &mut [Standing; SCHEDULE_LINES]) -> Result<(), Refusal> {
     let header = &schedule.header;
     // A bare constant holds no scale; its entry is never looked at, since no rule names it.
     for (n, &line) in schedule.lines().iter().enumerate() {
@@ -82,6 +82,7 @@ fn standing_after(header: &Header, line: Line, held: &[Standing]) -> Result<Opti
         }
         Line::Modswitch { a, count } => Standing { level: at(a).level - i32::from(count), ..at(a) },
         Line::Upscale { a, bits } => Standing { scale: at(a).scale + i32::from(bits), ..at(a) },
+        Line::Downscale { .. } => unreachable!("a schedule has no `ds`"),
     }))
 }
 

@@ -1,5 +1,6 @@
 //! The kinds of cases, and what is compared in each.
 
+mod listings;
 mod machines;
 mod search;
 
@@ -25,9 +26,13 @@ pub enum Kind {
     Machines,
     Search,
     Soup,
+    Listing,
+    LegalListing,
+    SpoiledListing,
+    DamagedListing,
 }
 
-pub const KINDS: [Kind; 11] = [
+pub const KINDS: [Kind; 15] = [
     Kind::Circuit,
     Kind::Schedule,
     Kind::HandMade,
@@ -39,30 +44,39 @@ pub const KINDS: [Kind; 11] = [
     Kind::Machines,
     Kind::Search,
     Kind::Soup,
+    Kind::Listing,
+    Kind::LegalListing,
+    Kind::SpoiledListing,
+    Kind::DamagedListing,
 ];
 
 /// The kinds follow each other in this order, over and over.
-const ROUND: [Kind; 20] = [
+const ROUND: [Kind; 25] = [
     Kind::Circuit,
     Kind::HandMade,
     Kind::DamagedCircuit,
     Kind::Limit,
+    Kind::Listing,
     Kind::Schedule,
     Kind::Circuit,
     Kind::Spoiled,
     Kind::DamagedSchedule,
+    Kind::LegalListing,
     Kind::Machines,
     Kind::Search,
     Kind::Circuit,
     Kind::HandMade,
+    Kind::SpoiledListing,
     Kind::DamagedCircuit,
     Kind::Limit,
     Kind::Schedule,
     Kind::Soup,
+    Kind::DamagedListing,
     Kind::Spoiled,
     Kind::DamagedSchedule,
     Kind::Machines,
     Kind::Buffer,
+    Kind::DamagedListing,
 ];
 
 impl Kind {
@@ -83,6 +97,10 @@ impl Kind {
             Kind::Machines => "both machines",
             Kind::Search => "exhaustive search",
             Kind::Soup => "soup",
+            Kind::Listing => "random listings",
+            Kind::LegalListing => "mostly legal listings",
+            Kind::SpoiledListing => "slightly illegal listings",
+            Kind::DamagedListing => "damaged listings",
         }
     }
 }
@@ -101,10 +119,14 @@ pub fn run(case: u64, random: &mut Random, both: &mut Both) -> Result<(), String
         Kind::Machines => machines::machines(random, both),
         Kind::Search => search::tiny(random, both),
         Kind::Soup => soup(random, both),
+        Kind::Listing => listings::any(random, both),
+        Kind::LegalListing => listings::legal(random, both),
+        Kind::SpoiledListing => listings::spoiled(random, both),
+        Kind::DamagedListing => listings::damaged(random, both),
     }
 }
 
-/// Both sides agree, yet what document 01 says of the reply may fail to hold.
+/// Both sides agree, yet what the documents say of the reply may fail to hold.
 fn expect(holds: bool, otherwise: impl FnOnce() -> String) -> Result<(), String> {
     if holds {
         Ok(())
@@ -142,18 +164,19 @@ fn round_trip(circuit: &[u8], planned: &Outcome, both: &mut Both) -> Result<(), 
 
 fn schedule(random: &mut Random, both: &mut Both) -> Result<(), String> {
     let schedule = files::schedule(random);
-    let text = bytes_of(&schedule, Reading::Schedule);
-    both.erase(&text, AMPLE)?;
-    check_against_erasure(random, &schedule, &text, both)
+    services_of_schedule(random, &schedule, both)
 }
 
-/// Checks against the schedule's own circuit, and against another one.
-fn check_against_erasure(random: &mut Random, schedule: &File, text: &[u8], both: &mut Both) -> Result<(), String> {
+/// Erases a schedule and turns it into a listing; checks it against its own circuit, and against another one.
+fn services_of_schedule(random: &mut Random, schedule: &File, both: &mut Both) -> Result<(), String> {
+    let text = bytes_of(schedule, Reading::Schedule);
+    let can_be_erased = both.erase(&text, AMPLE)?.reply.number == 0;
     let erased = erasure_of(schedule);
-    both.check(&bytes_of(&erased, Reading::Circuit), text)?;
+    let checked = both.check(&bytes_of(&erased, Reading::Circuit), &text)?.reply;
+    listings::services_of_schedule(&text, Some(checked).filter(|_| can_be_erased), both)?;
     if random.percent(40) {
         let other = hand::other_circuit(random, &erased);
-        both.check(&bytes_of(&other, Reading::Circuit), text)?;
+        both.check(&bytes_of(&other, Reading::Circuit), &text)?;
     }
     Ok(())
 }
@@ -176,9 +199,7 @@ fn schedule_by_hand(random: &mut Random) -> File {
 
 fn hand_made(random: &mut Random, both: &mut Both) -> Result<(), String> {
     let schedule = schedule_by_hand(random);
-    let text = bytes_of(&schedule, Reading::Schedule);
-    both.erase(&text, AMPLE)?;
-    check_against_erasure(random, &schedule, &text, both)
+    services_of_schedule(random, &schedule, both)
 }
 
 fn spoiled(random: &mut Random, both: &mut Both) -> Result<(), String> {
@@ -189,9 +210,9 @@ fn spoiled(random: &mut Random, both: &mut Both) -> Result<(), String> {
         hand::spoil(random, &mut schedule);
     }
     let text = bytes_of(&schedule, Reading::Schedule);
-    both.check(&erased, &text)?;
+    let checked = both.check(&erased, &text)?.reply;
     both.erase(&text, AMPLE)?;
-    Ok(())
+    listings::services_of_schedule(&text, Some(checked), both)
 }
 
 fn limit_pairs() -> &'static [Pair] {
@@ -214,6 +235,8 @@ fn limit(case: u64, both: &mut Both) -> Result<(), String> {
     }
     // A sound circuit before a schedule that may be damaged: file 2.
     both.check(b"circuit\t60\t20\t2\nin\n", &pair.schedule)?;
+    listings::services_of_schedule(&pair.schedule, None, both)?;
+    listings::services_of_listing(&limits::as_listing(&pair.schedule), both)?;
     Ok(())
 }
 
@@ -234,6 +257,7 @@ fn damaged_schedule(random: &mut Random, both: &mut Both) -> Result<(), String> 
     let schedule = if random.percent(50) { files::schedule(random) } else { schedule_by_hand(random) };
     let damaged = damage::damage(random, &bytes_of(&schedule, Reading::Schedule));
     both.erase(&damaged, AMPLE)?;
+    listings::services_of_schedule(&damaged, None, both)?;
     both.check(&bytes_of(&erasure_of(&schedule), Reading::Circuit), &damaged)?;
     // The damaged schedule may be sound still: then its own erasure is met too.
     if let Ok(sound) = file_of(&damaged, Reading::Schedule) {
@@ -244,11 +268,11 @@ fn damaged_schedule(random: &mut Random, both: &mut Both) -> Result<(), String> 
 
 /// Lengths around the needed one; for a small result now and then every length from 0.
 fn rooms(random: &mut Random, needed: usize) -> Vec<usize> {
-    if needed <= 120 && random.percent(20) {
+    if needed <= 120 && random.percent(5) {
         return (0..=needed + 2).collect();
     }
-    let mut rooms: Vec<usize> = (needed.saturating_sub(5)..=needed + 3).collect();
-    rooms.extend([0, 1, random.below(needed + 1), needed + random.below(200)]);
+    let mut rooms: Vec<usize> = (needed.saturating_sub(2)..=needed + 1).collect();
+    rooms.extend([0, random.below(needed + 1), needed + random.below(200)]);
     rooms
 }
 
@@ -267,21 +291,26 @@ fn buffer(random: &mut Random, both: &mut Both) -> Result<(), String> {
     for room in rooms(random, erased.written.len()) {
         both.erase(&schedule, room)?;
     }
-    Ok(())
+    listings::buffers(random, both)
 }
 
 fn soup(random: &mut Random, both: &mut Both) -> Result<(), String> {
     let circuit = damage::soup(random, "circuit");
     let schedule = damage::soup(random, "schedule");
+    let listing = damage::soup(random, "rising");
     services_of_circuit(&circuit, both)?;
     both.erase(&schedule, AMPLE)?;
     both.check(&circuit, &schedule)?;
     both.check(b"circuit\t60\t20\t1\n", &schedule)?;
+    listings::services_of_schedule(&schedule, None, both)?;
+    listings::services_of_listing(&listing, both)?;
     // The empty slice in each place.
     both.check(&circuit, b"")?;
     both.check(b"", &schedule)?;
     both.plan(b"", 0)?;
     both.erase(b"", 0)?;
+    both.from_rising(b"", 0)?;
+    both.to_rising(b"", 0)?;
     both.least_level(b"")?;
     Ok(())
 }

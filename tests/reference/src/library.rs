@@ -7,10 +7,14 @@ extern "C" {
     fn gowashiru_check(circuit: *const u8, circuit_len: usize, schedule: *const u8, schedule_len: usize) -> Reply;
     fn gowashiru_erase(schedule: *const u8, schedule_len: usize, out: *mut u8, out_len: usize) -> Reply;
     fn gowashiru_least_level(circuit: *const u8, circuit_len: usize) -> Reply;
+    fn gowashiru_from_rising(listing: *const u8, listing_len: usize, out: *mut u8, out_len: usize) -> Reply;
+    fn gowashiru_to_rising(schedule: *const u8, schedule_len: usize, out: *mut u8, out_len: usize) -> Reply;
     fn yardstick_plan(circuit: *const u8, circuit_len: usize, out: *mut u8, out_len: usize) -> Reply;
     fn yardstick_check(circuit: *const u8, circuit_len: usize, schedule: *const u8, schedule_len: usize) -> Reply;
     fn yardstick_erase(schedule: *const u8, schedule_len: usize, out: *mut u8, out_len: usize) -> Reply;
     fn yardstick_least_level(circuit: *const u8, circuit_len: usize) -> Reply;
+    fn yardstick_from_rising(listing: *const u8, listing_len: usize, out: *mut u8, out_len: usize) -> Reply;
+    fn yardstick_to_rising(schedule: *const u8, schedule_len: usize, out: *mut u8, out_len: usize) -> Reply;
 }
 
 /// The proved archive, or the same services in plain C.
@@ -26,6 +30,8 @@ pub enum Service {
     Check,
     Erase,
     LeastLevel,
+    FromRising,
+    ToRising,
 }
 
 /// Bytes to be lent, with guard bytes on both sides. Inputs are lent from memory that could be written, so that a write by
@@ -72,7 +78,7 @@ impl Lent {
     }
 }
 
-/// Calls a service. `second` is asked for by check alone, `out` by plan and erase.
+/// Calls a service. `second` is asked for by check alone, `out` by all but check and least level.
 pub fn call(library: Library, service: Service, first: &mut Lent, second: &mut Lent, out: &mut Lent) -> Reply {
     let (a, a_length) = (first.pointer(), first.length);
     let (b, b_length) = (second.pointer(), second.length);
@@ -85,10 +91,14 @@ pub fn call(library: Library, service: Service, first: &mut Lent, second: &mut L
             (Library::Archive, Service::Check) => gowashiru_check(a, a_length, b, b_length),
             (Library::Archive, Service::Erase) => gowashiru_erase(a, a_length, result, room),
             (Library::Archive, Service::LeastLevel) => gowashiru_least_level(a, a_length),
+            (Library::Archive, Service::FromRising) => gowashiru_from_rising(a, a_length, result, room),
+            (Library::Archive, Service::ToRising) => gowashiru_to_rising(a, a_length, result, room),
             (Library::Yardstick, Service::Plan) => yardstick_plan(a, a_length, result, room),
             (Library::Yardstick, Service::Check) => yardstick_check(a, a_length, b, b_length),
             (Library::Yardstick, Service::Erase) => yardstick_erase(a, a_length, result, room),
             (Library::Yardstick, Service::LeastLevel) => yardstick_least_level(a, a_length),
+            (Library::Yardstick, Service::FromRising) => yardstick_from_rising(a, a_length, result, room),
+            (Library::Yardstick, Service::ToRising) => yardstick_to_rising(a, a_length, result, room),
         }
     }
 }

@@ -137,7 +137,8 @@ fn work(header: &Header, line: Line, held: &[Held]) -> Result<Held, Reason> {
             let vector = divided.collect::<Option<Vector>>().ok_or(Reason::Remainder)?;
             keep(vector, scale - bits, level - i64::from(count))
         }
-        Line::In | Line::Const { .. } => Err(Reason::NoScale),
+        // A listing's `ds` stands in no schedule.
+        Line::In | Line::Const { .. } | Line::Downscale { .. } => Err(Reason::NoScale),
     }
 }
 

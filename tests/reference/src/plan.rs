@@ -68,7 +68,8 @@ pub fn step(header: &Header, line: Line, spots: &[Option<Spot>]) -> Option<Step>
             (None, None) => None,
         },
         // No line of a circuit has these words.
-        Line::Enc { .. } | Line::Rescale { .. } | Line::Modswitch { .. } | Line::Upscale { .. } => None,
+        Line::Enc { .. } | Line::Rescale { .. } | Line::Modswitch { .. } => None,
+        Line::Upscale { .. } | Line::Downscale { .. } => None,
     }
 }
 

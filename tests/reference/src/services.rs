@@ -1,7 +1,7 @@
-//! The four services, from lent bytes to a reply, and the program's output.
+//! The services, from lent bytes to a reply, and the program's output.
 
 use crate::text::{read, write, File, Reading, Refusal, Text, TEXT_BYTES};
-use crate::{check, erase, plan};
+use crate::{check, erase, plan, rising};
 
 /// The reply of a call, laid out as in the C declarations. "number 0 is success, then file and place are 0."
 #[repr(C)]
@@ -68,6 +68,26 @@ pub fn least_level(circuit: &[u8]) -> Reply {
     let mut table = File::free();
     match read(circuit, Reading::Circuit, &mut table).and_then(|()| plan::least_level(&table)) {
         Ok(level) => Reply::success(level),
+        Err(refusal) => Reply::refused(1, refusal),
+    }
+}
+
+/// Make a schedule of a listing in the rising-level dialect.
+pub fn from_rising(listing: &[u8], out: &mut [u8]) -> Reply {
+    let mut table = File::free();
+    let mut schedule = File::free();
+    match read(listing, Reading::Listing, &mut table).and_then(|()| rising::to_schedule(&table, &mut schedule)) {
+        Ok(()) => hand_back(&schedule, Reading::Schedule, out),
+        Err(refusal) => Reply::refused(1, refusal),
+    }
+}
+
+/// Make a listing in the rising-level dialect of a schedule, which is read as for erase.
+pub fn to_rising(schedule: &[u8], out: &mut [u8]) -> Reply {
+    let mut table = File::free();
+    let mut listing = File::free();
+    match read(schedule, Reading::ScheduleToErase, &mut table).and_then(|()| rising::to_listing(&table, &mut listing)) {
+        Ok(()) => hand_back(&listing, Reading::Listing, out),
         Err(refusal) => Reply::refused(1, refusal),
     }
 }

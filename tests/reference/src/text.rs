@@ -1,10 +1,10 @@
-//! The two files: text to table and back, with refusals 1, 2, 3, 4, 5 and 11.
+//! The files, circuit, schedule and listing: text to table and back, with refusals 1, 2, 3, 4, 5 and 11.
 
 /// "at most 256 lines" after the header of a circuit.
 pub const CIRCUIT_LINES: usize = 256;
 /// "at most 1,792 lines" after the header of a schedule.
 pub const SCHEDULE_LINES: usize = 1792;
-/// Erase refuses "also the 257th line whose first field is a circuit word".
+/// Erase refuses "also the 257th line whose first field is a circuit word". In Job 2, "either way a 257th kept line is 3, as in erase".
 pub const KEPT_LINES: usize = 256;
 /// "A field that is no number gives 1, as does one over 11 bytes."
 const FIELD_BYTES: usize = 11;
@@ -19,7 +19,8 @@ pub struct Header {
     pub top_level: i32,
 }
 
-/// One line after the header; `a` and `b` are operands, "a value number counts the lines after the header from 0".
+/// One line after the header; `a` and `b` are operands, "a value number counts the lines after the header from 0". `Downscale` is `ds A` and
+/// stands in a listing alone; there the level of an `enc` is kept as written, counted up from 0.
 #[derive(Clone, Copy, PartialEq, Eq, Debug)]
 pub enum Line {
     In,
@@ -33,6 +34,7 @@ pub enum Line {
     Rescale { a: u16, count: u8 },
     Modswitch { a: u16, count: u8 },
     Upscale { a: u16, bits: u16 },
+    Downscale { a: u16 },
 }
 
 /// What an operand finds on the line that it names.
@@ -55,11 +57,21 @@ impl Line {
         }
     }
 
-    /// The line that an encode, rescale, modswitch or upscale line was made from; none for a line with a circuit word.
+    /// The line that an encode, rescale, modswitch, upscale or downscale line was made from; none for a line with a circuit word.
     pub fn struck_from(self) -> Option<u16> {
         match self {
-            Line::Enc { a, .. } | Line::Rescale { a, .. } | Line::Modswitch { a, .. } | Line::Upscale { a, .. } => Some(a),
+            Line::Enc { a, .. } | Line::Rescale { a, .. } | Line::Modswitch { a, .. } => Some(a),
+            Line::Upscale { a, .. } | Line::Downscale { a } => Some(a),
             _ => None,
+        }
+    }
+
+    pub fn operands(self) -> [Option<u16>; 2] {
+        match self {
+            Line::In | Line::Const { .. } => [None; 2],
+            Line::Add { a, b } | Line::Mul { a, b } => [Some(a), Some(b)],
+            Line::Neg { a } | Line::Rot { a, .. } | Line::Out { a } => [Some(a), None],
+            struck => [struck.struck_from(), None],
         }
     }
 
@@ -76,6 +88,7 @@ impl Line {
             Line::Rescale { a, count } => Line::Rescale { a: rename(a), count },
             Line::Modswitch { a, count } => Line::Modswitch { a: rename(a), count },
             Line::Upscale { a, bits } => Line::Upscale { a: rename(a), bits },
+            Line::Downscale { a } => Line::Downscale { a: rename(a) },
         }
     }
 }
@@ -135,12 +148,13 @@ impl Refusal {
     }
 }
 
-/// What a file is read as. Erase has a limit of its own on the lines with circuit words.
+/// What a file is read as. A schedule to erase or to turn into a listing, and a listing, have a limit on the lines with circuit words.
 #[derive(Clone, Copy, PartialEq, Eq, Debug)]
 pub enum Reading {
     Circuit,
     Schedule,
     ScheduleToErase,
+    Listing,
 }
 
 impl Reading {
@@ -148,13 +162,14 @@ impl Reading {
         match self {
             Reading::Circuit => b"circuit",
             Reading::Schedule | Reading::ScheduleToErase => b"schedule",
+            Reading::Listing => b"rising",
         }
     }
 
     fn line_limit(self) -> usize {
         match self {
             Reading::Circuit => CIRCUIT_LINES,
-            Reading::Schedule | Reading::ScheduleToErase => SCHEDULE_LINES,
+            Reading::Schedule | Reading::ScheduleToErase | Reading::Listing => SCHEDULE_LINES,
         }
     }
 
@@ -162,8 +177,20 @@ impl Reading {
     fn constant_kind(self) -> ValueKind {
         match self {
             Reading::Circuit => ValueKind::Constant,
-            Reading::Schedule | Reading::ScheduleToErase => ValueKind::Encoded,
+            Reading::Schedule | Reading::ScheduleToErase | Reading::Listing => ValueKind::Encoded,
         }
+    }
+
+    fn has_word(self, word: Word) -> bool {
+        match self {
+            Reading::Circuit => word.is_circuit_word(),
+            Reading::Schedule | Reading::ScheduleToErase => word != Word::Downscale,
+            Reading::Listing => true,
+        }
+    }
+
+    fn limits_kept(self) -> bool {
+        matches!(self, Reading::ScheduleToErase | Reading::Listing)
     }
 }
 
@@ -188,7 +215,7 @@ pub fn read(bytes: &[u8], reading: Reading, file: &mut File) -> Result<(), Refus
         if file.count == reading.line_limit() {
             return Err(refused(3));
         }
-        if reading == Reading::ScheduleToErase && kept == KEPT_LINES && begins_with_circuit_word(content) {
+        if reading.limits_kept() && kept == KEPT_LINES && begins_with_circuit_word(content) {
             return Err(refused(3));
         }
         if !closed {
@@ -250,6 +277,7 @@ enum Word {
     Rescale,
     Modswitch,
     Upscale,
+    Downscale,
 }
 
 impl Word {
@@ -266,22 +294,24 @@ impl Word {
             b"rs" => Word::Rescale,
             b"ms" => Word::Modswitch,
             b"us" => Word::Upscale,
+            b"ds" => Word::Downscale,
             _ => return None,
         })
     }
 
     fn is_circuit_word(self) -> bool {
-        !matches!(self, Word::Enc | Word::Rescale | Word::Modswitch | Word::Upscale)
+        !matches!(self, Word::Enc | Word::Rescale | Word::Modswitch | Word::Upscale | Word::Downscale)
     }
 
     /// What the numbers after the word are.
-    fn numbers(self) -> &'static [Number] {
+    fn numbers(self, reading: Reading) -> &'static [Number] {
         match self {
             Word::In => &[],
             Word::Const => &[Number::Constant],
-            Word::Neg | Word::Out => &[Number::Operand],
+            Word::Neg | Word::Out | Word::Downscale => &[Number::Operand],
             Word::Rot => &[Number::Operand, Number::Rotation],
             Word::Add | Word::Mul => &[Number::Operand, Number::Operand],
+            Word::Enc if reading == Reading::Listing => &[Number::Operand, Number::Scale, Number::RisingLevel],
             Word::Enc => &[Number::Operand, Number::Scale, Number::Level],
             Word::Rescale | Word::Modswitch => &[Number::Operand, Number::Count],
             Word::Upscale => &[Number::Operand, Number::Scale],
@@ -299,6 +329,8 @@ enum Number {
     Scale,
     /// E of `enc`.
     Level,
+    /// E of `enc` in a listing.
+    RisingLevel,
     /// C of `rs` and `ms`.
     Count,
 }
@@ -313,6 +345,8 @@ impl Number {
             Number::Rotation => (-32_767..=32_767).contains(&value),
             Number::Scale => (1..=3600).contains(&value),
             Number::Level => (1..=i64::from(header.top_level)).contains(&value),
+            // "the written level runs from 0 to L − 1", document 02, Job 2.
+            Number::RisingLevel => (0..i64::from(header.top_level)).contains(&value),
             Number::Count => (1..=60).contains(&value),
         }
     }
@@ -357,11 +391,11 @@ struct Record {
 fn read_record(content: &[u8], reading: Reading) -> Option<Record> {
     let mut fields = fields(content);
     let word = Word::of(fields.next()?)?;
-    if reading == Reading::Circuit && !word.is_circuit_word() {
+    if !reading.has_word(word) {
         return None;
     }
     let mut numbers = [0; 3];
-    for (slot, &number) in numbers.iter_mut().zip(word.numbers()) {
+    for (slot, &number) in numbers.iter_mut().zip(word.numbers(reading)) {
         *slot = read_field(number, fields.next()?)?;
     }
     match fields.next() {
@@ -373,7 +407,7 @@ fn read_record(content: &[u8], reading: Reading) -> Option<Record> {
 /// In a line all form comes first, then all ranges, then all 4, then all 5.
 fn read_line(content: &[u8], reading: Reading, file: &File) -> Result<Line, u32> {
     let record = read_record(content, reading).ok_or(1u32)?;
-    let numbers = record.word.numbers();
+    let numbers = record.word.numbers(reading);
     let given = || numbers.iter().zip(&record.numbers);
     if given().any(|(number, &value)| !number.in_range(value, &file.header)) {
         return Err(11);
@@ -397,7 +431,8 @@ fn kinds_fit(record: &Record, reading: Reading, file: &File) -> bool {
     match record.word {
         Word::In | Word::Const => true,
         Word::Enc => kind(0) == ValueKind::Constant,
-        Word::Neg | Word::Rot | Word::Out | Word::Rescale | Word::Modswitch | Word::Upscale => kind(0) == ValueKind::Ciphertext,
+        Word::Neg | Word::Rot | Word::Out => kind(0) == ValueKind::Ciphertext,
+        Word::Rescale | Word::Modswitch | Word::Upscale | Word::Downscale => kind(0) == ValueKind::Ciphertext,
         Word::Add | Word::Mul => match (kind(0), kind(1)) {
             (ValueKind::Ciphertext, ValueKind::Ciphertext) => true,
             (ValueKind::Ciphertext, other) | (other, ValueKind::Ciphertext) => other == reading.constant_kind(),
@@ -422,6 +457,7 @@ fn line_of(record: &Record) -> Line {
         Word::Rescale => Line::Rescale { a, count: second as u8 },
         Word::Modswitch => Line::Modswitch { a, count: second as u8 },
         Word::Upscale => Line::Upscale { a, bits: second as u16 },
+        Word::Downscale => Line::Downscale { a },
     }
 }
 
@@ -492,6 +528,7 @@ impl Text {
             Line::Rescale { a, count } => self.put_record(b"rs", &[n(a), i64::from(count)]),
             Line::Modswitch { a, count } => self.put_record(b"ms", &[n(a), i64::from(count)]),
             Line::Upscale { a, bits } => self.put_record(b"us", &[n(a), n(bits)]),
+            Line::Downscale { a } => self.put_record(b"ds", &[n(a)]),
         }
     }
 }

@@ -31,6 +31,6 @@ erase-table-spec =
     (λ c. search filling-laws)
     (λ c. search filling-laws)
     (λ c. search filling-laws)
-    (λ c. ⊎-elim (λ w. search after-struck) (λ w. search after-kept) (c .match .came))
+    (λ c. ⊎-elim (λ w. search after-struck) (λ w. search (after-kept _ _ _ _ _ _ (c .before .before .before .before .loop .inv))) (c .match .came))
     (λ c. search filling-laws)
     (λ c. (search filling-laws, search filling-laws)))

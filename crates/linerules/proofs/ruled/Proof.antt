@@ -27,6 +27,8 @@ ruled-spec =
     (λ c. search line-laws)
     (λ c κs. search line-laws)
     (λ c. search line-laws)
+    (λ c κs. search line-laws)
+    (λ c. search line-laws)
     (λ c. search line-laws)
     (λ c. search line-laws)
     (λ c. search line-laws)

@@ -6,10 +6,10 @@ use Rattle.reader.proofs.read_lines.Statement.{statement}
 use Rattle.reader.proofs.read_lines.Tie as tie
 
 abbrev Inv-loop : tie.InvT-loop
-Inv-loop context header text start records₀ grammar count₀ kept₀ at₀ records count kept at = Filling context header text start records count kept at
+Inv-loop levels context header text start records₀ grammar count₀ kept₀ at₀ records count kept at = Filling levels context header text start records count kept at
 
 abbrev μ-loop : tie.MeasureT-loop
-μ-loop context header text start records₀ grammar count₀ kept₀ at₀ records count kept at = length text - at
+μ-loop levels context header text start records₀ grammar count₀ kept₀ at₀ records count kept at = length text - at
 
 pub read-lines-spec : {M : Type 1} → statement M
 read-lines-spec =

@@ -5,10 +5,10 @@ use Rattle.rules.proofs.rules_answer.Statement.{statement}
 use Rattle.rules.proofs.rules_answer.Tie as tie
 
 abbrev Inv-loop : tie.InvT-loop
-Inv-loop header schedule count held₀ i₀ held i = Checking header schedule count held i
+Inv-loop header schedule count scales₀ levels₀ i₀ scales levels i = Checking header schedule count scales levels i
 
 abbrev μ-loop : tie.MeasureT-loop
-μ-loop header schedule count held₀ i₀ held i = count - i
+μ-loop header schedule count scales₀ levels₀ i₀ scales levels i = count - i
 
 pub rules-answer-spec : {M : Type 1} → statement M
 rules-answer-spec =
@@ -20,9 +20,13 @@ rules-answer-spec =
     (λ c κs. search loop-laws)
     (λ c κs. search loop-laws)
     (λ c. search loop-laws)
-    (λ c. search loop-laws)
-    (λ c. search loop-laws)
     (λ c κs. search loop-laws)
+    (λ c. search loop-laws)
+    (λ c. search loop-laws)
+    (λ c. search loop-laws)
+    (λ c. search loop-laws)
+    (λ c. search loop-laws)
+    (λ c. search loop-laws)
     (λ c. search loop-laws)
     (λ c. search loop-laws)
     (λ c. search loop-laws)
@@ -36,5 +40,7 @@ rules-answer-spec =
     (λ c. search loop-laws)
     (λ c. search loop-laws)
     (λ c. search loop-laws)
-    (λ c. search (line-passes _ _ _ _ _ (c .before .before .before .before .before .before .before .before .before .before .loop .inv)))
+    (λ c. search loop-laws)
+    (λ c. search loop-laws)
+    (λ c. search (line-passes _ _ _ _ _ _ (c .before .before .before .before .before .before .before .before .before .before .loop .inv)))
     (λ c. search loop-laws))

@@ -1,8 +1,8 @@
--- `spelling::put_number` meets its contract: one to three digits, or the digits of a tenth and one more. The number falls. Assumes nothing.
+-- `spelling::put_number` meets its contract: one to three digits, or the digits of a hundredth and two more. The number falls. Assumes nothing.
 use Prim.Native.Nat.{ℕ, _<_}
 use borrow.Author.Needs.{needs}
 use native.Mathlib.Omega.{arith}
-use Rattle.spelling.proofs.Digits.{digit-puts}
+use Rattle.spelling.proofs.Digits.{last-room, digit-puts}
 use borrow.Fn.Kinds.{In}
 use borrow.Fn.PlainCycle.{Measures, is, falls, and}
 use Rattle.spelling.proofs.put_number.Reads as put-number
@@ -48,5 +48,12 @@ pub +put-number-spec : {M : Type 1} → statement M
     (λ c. search laws)
     (λ c κs. (omega arith, search laws))
     (λ c κs. search laws)
+    (λ c κs. let next = c .before .before .before .put-digit7 in
+    let hundredth = c .before .before .before .before .before .before .before .put-number in
+    let put = next .ensures in
+    let same = next .kept .0 in
+    let first = hundredth .ensures in
+    let given = hundredth .kept .0 in
+    search (needs, last-room))
     (λ c. search needs)
     (λ c. search laws)

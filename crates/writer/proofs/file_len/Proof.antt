@@ -6,10 +6,10 @@ use Rattle.writer.proofs.file_len.Statement.{statement}
 use Rattle.writer.proofs.file_len.Tie as tie
 
 abbrev Inv-loop : tie.InvT-loop
-Inv-loop records count total₀ i₀ total i = Counting records count total₀ total i
+Inv-loop word records count total₀ i₀ total i = Counting records count total₀ total i
 
 abbrev μ-loop : tie.MeasureT-loop
-μ-loop records count total₀ i₀ total i = count - i
+μ-loop word records count total₀ i₀ total i = count - i
 
 pub file-len-spec : {M : Type 1} → statement M
 file-len-spec =

@@ -6,10 +6,10 @@ use Rattle.writer.proofs.put_file.Statement.{statement}
 use Rattle.writer.proofs.put_file.Tie as tie
 
 abbrev Inv-loop : tie.InvT-loop
-Inv-loop out₀ records count at₀ i₀ out at i = Writing out₀ at₀ records count out at i
+Inv-loop out₀ word records count at₀ i₀ out at i = Writing out₀ at₀ records count out at i
 
 abbrev μ-loop : tie.MeasureT-loop
-μ-loop out₀ records count at₀ i₀ out at i = count - i
+μ-loop out₀ word records count at₀ i₀ out at i = count - i
 
 pub put-file-spec : {M : Type 1} → statement M
 put-file-spec =

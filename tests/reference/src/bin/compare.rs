@@ -1,7 +1,7 @@
 //! Compares the archive and the yardstick with the reference on seeded random cases, and fails where too little was tried. `--case K` runs one
 //! case again and shows it.
 
-use reference::both::{Both, Runs, Searches};
+use reference::both::{Both, Runs, Searches, Trips};
 use reference::coverage::{Asked, Coverage};
 use reference::kinds::{run, Kind, KINDS};
 use reference::random::Random;
@@ -34,10 +34,14 @@ fn asked_of(kind: Kind) -> (&'static [usize], u64) {
         Kind::Machines => (&[0, 7, 8, 9, 10], 100),
         Kind::Search => (&[0, 6], 1000),
         Kind::Soup => (&[0, 1, 4, 5, 11, 12], 1000),
+        Kind::Listing => (&[0, 3, 7, 8, 9, 10, 14], 100),
+        Kind::LegalListing => (&[0, 3], 50),
+        Kind::SpoiledListing => (&[0, 7, 8, 9, 10, 14], 100),
+        Kind::DamagedListing => (&[0, 1, 2, 3, 4, 5, 9, 10, 11], 100),
     }
 }
 
-/// The searches of each answer and the runs of each end.
+/// The searches of each answer, the runs of each end and the trips from each dialect.
 const ASKED_SHARP: u64 = 1000;
 
 struct Options {
@@ -69,6 +73,7 @@ struct Count {
     coverage: Coverage,
     searches: Searches,
     runs: Runs,
+    trips: Trips,
 }
 
 impl Count {
@@ -78,6 +83,7 @@ impl Count {
         self.coverage.add(&other.coverage);
         self.searches.add(&other.searches);
         self.runs.add(&other.runs);
+        self.trips.add(&other.trips);
     }
 }
 
@@ -109,7 +115,8 @@ fn run_case(seed: u64, case: u64, show: bool) -> (Result<(), String>, Count) {
     // Guard bytes have a generator of their own: they do not move the case.
     let mut both = Both::new(Random::new(!seed, case), show);
     let result = run(case, &mut random, &mut both);
-    (result, Count { cases: 1, calls: both.calls, coverage: both.coverage, searches: both.searches, runs: both.runs })
+    let Both { calls, coverage, searches, runs, trips, .. } = both;
+    (result, Count { cases: 1, calls, coverage, searches, runs, trips })
 }
 
 fn run_one(seed: u64, case: u64) -> ExitCode {
@@ -217,8 +224,10 @@ fn print_counts(counts: &Counts) -> ExitCode {
     let Runs { to_the_end, stopped } = all.runs;
     println!("exhaustive searches: {exists} found a schedule, {none} found that there is none, {gave_up} gave up");
     println!("scale machine: {to_the_end} runs to the end, {stopped} stopped");
+    let Trips { of_listing, of_schedule } = all.trips;
+    println!("there and back: {of_listing} listings without ds, {of_schedule} schedules");
     enough &= all.coverage.print(&ASKED);
-    let sharp = [exists, none, to_the_end, stopped].iter().all(|&count| count >= ASKED_SHARP);
+    let sharp = [exists, none, to_the_end, stopped, of_listing, of_schedule].iter().all(|&count| count >= ASKED_SHARP);
     if !enough || !sharp || gave_up * MOST_GIVEN_UP > exists + none + gave_up {
         println!("compare: no difference, but too little was tried: see the counts marked !, the searches and the runs");
         return ExitCode::FAILURE;

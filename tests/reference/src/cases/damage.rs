@@ -3,8 +3,10 @@
 use crate::random::Random;
 use crate::text::{CIRCUIT_LINES, SCHEDULE_LINES};
 
-const WORDS: [&str; 17] =
-    ["in", "const", "neg", "rot", "add", "mul", "out", "enc", "rs", "ms", "us", "circuit", "schedule", "IN", "inn", "i", ""];
+const WORDS: [&str; 19] = [
+    "in", "const", "neg", "rot", "add", "mul", "out", "enc", "rs", "ms", "us", "ds", "circuit", "schedule", "rising", "IN",
+    "inn", "i", "",
+];
 
 /// Fields at and past the limits, fields that are small or a limit modulo two to the 16 or to the 32, and fields that are no number.
 pub const FIELDS: [&str; 64] = [
@@ -202,7 +204,7 @@ fn damage_field(random: &mut Random, text: &[u8]) -> Vec<u8> {
 /// The last number that is taken at some place of the line, or the first that is not.
 fn limit_field(random: &mut Random, fields: &mut [Vec<u8>]) {
     let (place, numbers): (usize, &[&str]) = match &fields[0][..] {
-        b"circuit" | b"schedule" => (1 + random.below(3), &["0", "1", "60", "61"]),
+        b"circuit" | b"schedule" | b"rising" => (1 + random.below(3), &["0", "1", "60", "61"]),
         b"const" => (1, &["65535", "65536", "4294967295", "4294967296"]),
         b"rot" => (2, &["32767", "32768", "-32767", "-32768"]),
         b"us" | b"enc" => (2, &["3600", "3601"]),
@@ -241,7 +243,7 @@ pub fn soup(random: &mut Random, header_word: &str) -> Vec<u8> {
     match random.below(10) {
         0 => text.extend((0..8 * lines).map(|_| random.word() as u8)),
         1 => text.extend((0..8 * lines).flat_map(|_| token(random).bytes())),
-        _ => text.extend((0..lines).flat_map(|number| near_line(random, number))),
+        _ => text.extend((0..lines).flat_map(|number| near_line(random, number, header_word))),
     }
     text
 }
@@ -258,7 +260,7 @@ fn token(random: &mut Random) -> &'static str {
 }
 
 /// A word with its number of fields, filled with small numbers mostly.
-fn near_line(random: &mut Random, number: usize) -> Vec<u8> {
+fn near_line(random: &mut Random, number: usize, header_word: &str) -> Vec<u8> {
     let forms = [
         ("in", 0),
         ("in", 0),
@@ -271,8 +273,11 @@ fn near_line(random: &mut Random, number: usize) -> Vec<u8> {
         ("us", 2),
         ("rs", 2),
         ("enc", 3),
+        ("ds", 1),
     ];
-    let (word, count) = if number == 0 { ("in", 0) } else { random.pick(&forms) };
+    // The last form is a listing's.
+    let forms = if header_word == "rising" { &forms[..] } else { &forms[..forms.len() - 1] };
+    let (word, count) = if number == 0 { ("in", 0) } else { random.pick(forms) };
     let mut line = word.to_string();
     for _ in 0..count {
         let field = match random.below(40) {

@@ -1,7 +1,8 @@
-//! Random well-formed circuits and schedules.
+//! Random well-formed circuits, schedules and listings.
 
 use crate::plan;
 use crate::random::Random;
+use crate::rising;
 use crate::text::{File, Header, Line, CIRCUIT_LINES, SCHEDULE_LINES};
 
 /// What a random file leans to. Shares are in percent.
@@ -17,6 +18,8 @@ struct Leaning {
     reach: usize,
     /// Lines that erasing strikes out: none in a circuit.
     struck: usize,
+    /// `ds` lines among the struck ones: none but in a listing.
+    downscales: usize,
 }
 
 struct Maker<'a> {
@@ -105,11 +108,25 @@ pub fn tiny_circuit(random: &mut Random, most_lines: usize, most_levels: i32) ->
 
 /// A schedule of the form; whether it keeps the rules is left to chance.
 pub fn schedule(random: &mut Random) -> File {
+    schedule_with(random, 0)
+}
+
+/// A listing of the form, in half of the cases without `ds`.
+pub fn listing(random: &mut Random) -> File {
+    let downscales = random.pick(&[0, 0, 20, 60]);
+    let mut listing = schedule_with(random, downscales);
+    for n in 0..listing.lines().len() {
+        listing.replace(n, rising::turned(&listing.header, listing.lines()[n]));
+    }
+    listing
+}
+
+fn schedule_with(random: &mut Random, downscales: usize) -> File {
     let size = size(random, SCHEDULE_LINES);
     let header = header(random);
     // A long schedule with few struck lines has too many kept ones for erase: both sides of that limit are wanted.
     let struck = if size > 400 { random.pick(&[70, 84, 86, 88, 95, 99]) } else { random.pick(&[0, 20, 50, 80]) };
-    let leaning = leaning(random, struck);
+    let leaning = Leaning { downscales, ..leaning(random, struck) };
     Maker::new(random, leaning, header, true).make(size)
 }
 
@@ -123,6 +140,7 @@ fn leaning(random: &mut Random, struck: usize) -> Leaning {
         squares: random.pick(&[0, 10, 50]),
         reach: random.pick(&[1, 2, 5, 300]),
         struck,
+        downscales: 0,
     }
 }
 
@@ -233,6 +251,9 @@ impl Maker<'_> {
             return None;
         }
         let a = self.ciphertext();
+        if self.leaning.downscales > 0 && self.random.percent(self.leaning.downscales) {
+            return Some(Line::Downscale { a });
+        }
         let count = if self.random.percent(90) { self.random.between(1, 3) } else { self.random.between(1, 60) } as u8;
         Some(match self.random.below(3) {
             0 => Line::Rescale { a, count },

@@ -253,7 +253,7 @@ pub fn spoil(random: &mut Random, schedule: &mut File) {
 }
 
 /// The number of a struck line, moved by one or to an end of its range.
-fn other_number(random: &mut Random, line: Line) -> Option<Line> {
+pub fn other_number(random: &mut Random, line: Line) -> Option<Line> {
     let mut moved = |number: i32, most: i32| match random.below(6) {
         0 => most,
         1 | 2 => (number - 1).max(1),
@@ -279,7 +279,7 @@ fn other_word(line: Line) -> Option<Line> {
 }
 
 /// Another line of the same kind that was made from the same kept line.
-fn other_operand(random: &mut Random, schedule: &File, n: usize) -> Option<Line> {
+pub fn other_operand(random: &mut Random, schedule: &File, n: usize) -> Option<Line> {
     let root = |mut number: u16| {
         while let Some(a) = schedule.lines()[usize::from(number)].struck_from() {
             number = a;

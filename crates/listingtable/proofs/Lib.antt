@@ -1,0 +1,3 @@
+mod LineLaws
+mod Converting
+pub mod SameScales
