@@ -1,4 +1,4 @@
-/* Plans document 01's listing, checks the plan, erases it, asks for the least level and shows a refusal; then takes a listing in the
+/* Plans document 01's listing, checks the plan, erases it, asks for the least level and shows two refusals; then takes a listing in the
  * rising-level dialect and gives one. Each reply is tested. */
 #include "../include/gowashiru.h"
 #include <stdio.h>
@@ -8,7 +8,10 @@ static const char circuit[] = "circuit\t60\t20\t2\nin\nconst\t7\nmul\t0\t1\nmul\
 /* The same at L = 1, which is too few levels. */
 static const char shallow[] = "circuit\t60\t20\t1\nin\nconst\t7\nmul\t0\t1\nmul\t2\t1\nmul\t3\t3\nout\t4\n";
 
-/* A schedule of it by hand in the rising-level dialect: levels count up from 0, and value 4 is downscaled to the waterline. */
+/* Twice times a constant: the result would fill the modulus at L = 1. With H = 5, for numbers below 16, that is too few levels. */
+static const char detune[] = "circuit\t60\t20\t1\t5\nin\nconst\t7\nmul\t0\t1\nmul\t2\t1\nout\t3\n";
+
+/* A schedule of the first by hand in the rising-level dialect: levels count up from 0, and value 4 is downscaled to the waterline. */
 static const char listing[] = "rising\t60\t20\t2\nin\nconst\t7\nenc\t1\t20\t0\nmul\t0\t2\nmul\t3\t2\nds\t4\nmul\t5\t5\nout\t6\n";
 
 static uint8_t plan[GOWASHIRU_ENOUGH_BYTES], erasure[GOWASHIRU_ENOUGH_BYTES];
@@ -73,7 +76,7 @@ int main(void) {
     const uint8_t *text = (const uint8_t *)circuit;
     if (plan_and_check(text, sizeof circuit - 1) || show_least_level(text, sizeof circuit - 1))
         return 1;
-    if (show_refusal((const uint8_t *)shallow, sizeof shallow - 1))
+    if (show_refusal((const uint8_t *)shallow, sizeof shallow - 1) || show_refusal((const uint8_t *)detune, sizeof detune - 1))
         return 1;
     return take_and_give_listing((const uint8_t *)listing, sizeof listing - 1);
 }

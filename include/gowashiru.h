@@ -6,6 +6,12 @@
  *
  * A circuit, a schedule or a listing in the rising-level dialect is text: one record a line, fields parted by one tab, every line closed
  * by a line feed.
+ *
+ * Its first line is the header: the word `circuit`, `schedule` or `rising`, then the rescale factor F, the waterline W and the top level L,
+ * and as a fourth number the headroom H where one is wanted, each from 1 to 60. Every scale is at least W, and scale + H is at most
+ * F*level bits; where no H is given, the scale alone is. Where H is given, a circuit line other than a bare constant whose numbers are
+ * all below 2^(H - 1) in absolute value holds, in every schedule that passes, only numbers below half of 2^(F*level). Plan, erase and
+ * both conversions write the header's numbers as they are, three or four; the least level is the least with the header's H.
  */
 #ifndef GOWASHIRU_H
 #define GOWASHIRU_H
@@ -18,18 +24,18 @@ extern "C" {
 #endif
 
 /* The version of this header and of the command; the pkg-config file has it too. */
-#define GOWASHIRU_VERSION "0.3.0"
+#define GOWASHIRU_VERSION "0.4.0"
 
-/* A buffer of so many bytes is enough for every plan, which is proved, for every erasure, which is a circuit and has at most 4,369,
- * and for every conversion: a schedule has at most 30,482 and a listing at most 30,480. */
+/* A buffer of so many bytes is enough for every plan, which is proved, for every erasure, which is a circuit and has at most 4,372,
+ * and for every conversion: a schedule has at most 30,485 and a listing at most 30,483. */
 #define GOWASHIRU_ENOUGH_BYTES 131072
 
 /* The largest number of a constant; the least is 0. A host that keeps its constants under numbers of its own, say a catalogue's,
  * holds one in a uint32_t. A larger one is refused with 11, and one of more than 11 digits with 1. */
 #define GOWASHIRU_MOST_CONSTANT 4294967295u
 
-/* The stack to give a thread. At most 39,688 bytes were measured on x86-64 (from rising; check 39,624, erase 32,848,
- * plan 31,376, to rising 21,784, least level 15,848) by tests/host/stack.c, on full files with the longest numbers in them. */
+/* The stack to give a thread. At most 39,736 bytes were measured on x86-64 (from rising; check 39,672, erase 32,792,
+ * plan 31,320, to rising 21,800, least level 15,864) by tests/host/stack.c, on full files with the longest numbers in them. */
 #define GOWASHIRU_STACK_BYTES 131072
 
 /* What the number of a reply says. The numbers do not change. */
@@ -37,7 +43,8 @@ enum gowashiru_number {
     GOWASHIRU_DONE = 0,
     /* Author of any file. */
     GOWASHIRU_NOT_OF_THE_FORM = 1,       /* text not of the form */
-    GOWASHIRU_HEADER_OUT_OF_RANGE = 2,   /* header number outside its range */
+    GOWASHIRU_HEADER_OUT_OF_RANGE = 2,   /* header number outside its range: F, W, L and, where it is given, H are from 1 to 60; an
+                                          * H of 0 is outside, and no H is written as three numbers */
     GOWASHIRU_TOO_MANY_LINES = 3,        /* more lines than allowed: 256 in a circuit, 1,792 in a schedule or a listing; in erase
                                           * and both conversions also the 257th line whose first field is a circuit word; after
                                           * the rules, the listing's line with which its schedule has more than 1,792 */
@@ -46,15 +53,17 @@ enum gowashiru_number {
     GOWASHIRU_NUMBER_OUT_OF_RANGE = 11,  /* other number outside its range */
     /* Author of a circuit. */
     GOWASHIRU_TOO_FEW_LEVELS = 6,        /* no schedule of any length keeps the rules at this header and erases to this circuit
-                                          * (least level: at L = 60); at the first line whose best reserve is below zero */
+                                          * (least level: at L = 60); at the first line whose best reserve is below zero, or
+                                          * below H where H is given */
     /* Maker of a schedule or a listing (check, both conversions). */
     GOWASHIRU_LEVELS_DIFFER = 7,         /* levels differ in add or mul */
     GOWASHIRU_SCALES_DIFFER = 8,         /* scales differ in add */
     GOWASHIRU_BELOW_WATERLINE = 10,      /* scale below the waterline */
-    GOWASHIRU_TOO_HIGH_FOR_DS = 14,      /* ds on a scale not below W + F (from rising) */
-    GOWASHIRU_ABOVE_MODULUS = 9,         /* scale above the modulus */
+    GOWASHIRU_TOO_HIGH_FOR_DS = 14,      /* ds on a scale not below W + F (from rising); told before 9 */
+    GOWASHIRU_ABOVE_MODULUS = 9,         /* scale above the modulus, where H is given scale + H; of a ds W + F, or W + F + H */
     GOWASHIRU_ANOTHER_CIRCUIT = 12,      /* erases to another circuit (check); the place is the first circuit line that differs, or
-                                          * one past the shorter file; file 1 */
+                                          * one past the shorter file; file 1. Place 1: F, W, L or H differ, also where only one
+                                          * of the two has an H */
     /* Caller. */
     GOWASHIRU_BUFFER_TOO_SHORT = 13      /* buffer too short, after all else; place 0, file 0 */
 };
@@ -81,8 +90,8 @@ struct gowashiru_reply gowashiru_check(const uint8_t *circuit, size_t circuit_le
 /* Erases a schedule to its circuit, whether or not it keeps the rules: writes the circuit to out. Refuses with 1 to 5, 11, 13. */
 struct gowashiru_reply gowashiru_erase(const uint8_t *schedule, size_t schedule_len, uint8_t *out, size_t out_len);
 
-/* The least top level at which a circuit has a schedule, as length. The header's own level is only tested for its range.
- * Refuses with 1 to 6, 11. */
+/* The least top level at which a circuit has a schedule, as length. The header's own level is only tested for its range; its H holds at
+ * each level that is tried. Refuses with 1 to 6, 11. */
 struct gowashiru_reply gowashiru_least_level(const uint8_t *circuit, size_t circuit_len);
 
 /* Makes a schedule of a listing in the rising-level dialect, which has levels that count up from 0 and `ds` lines: writes the schedule to

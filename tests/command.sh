@@ -244,7 +244,7 @@ plan_says 1 3 "$h"'in\ncircuit\t60\t20\t2\n' 'A header stands in the first line 
 plan_says 1 3 "$h"'in\nrot\t0\t-0\n' '-0 is no number'
 plan_says 1 3 "$h"'in\nrot\t-1\t0\n' '-1 is no number'
 plan_says 1 2 "$h"'const\t123456789012\n' '123456789012 is no number' 'at most 11 bytes'
-plan_says 1 1 'circuit\t60\t20\n' '`circuit F W L` has 3 numbers'
+plan_says 1 1 'circuit\t60\t20\n' '`circuit F W L` has 3 numbers after the word, or 4 with the headroom H, and here are 2.'
 plan_says 1 1 'circuit\t60\t+20\t2\n' '+20 is no number'
 plan_says 1 1 'schedule\t60\t20\t2\n' 'This is a schedule, and a circuit is wanted here: `gowashiru erase` makes one'
 plan_says 1 1 'in\n' 'The first line is the header, `circuit F W L`'
@@ -255,7 +255,7 @@ plan_says 4 3 "$h"'in\nadd\t0\t1\n' 'B = 1: this line is value 1' 'from 0 to 0'
 plan_says 4 4 "$h"'in\nout\t0\nmul\t1\t5\n' 'A = 1: line 3 is an `out` line' 'Name what it names, 0.' 'B = 5'
 plan_says 5 4 "$h"'in\nconst\t5\nneg\t1\n' 'operand of the wrong kind' 'A = 1 is a constant, line 3: const 5' '`neg` takes a ciphertext'
 plan_says 5 4 "$h"'in\nconst\t5\nmul\t1\t1\n' '`mul` takes two ciphertexts, or a ciphertext and a constant.'
-plan_says 6 4 'circuit\t60\t20\t1\nin\nmul\t0\t0\nmul\t1\t1\n' 'too few levels (refusal 6): mul 1 1' 'This circuit fits from L = 2 on'
+plan_says 6 4 'circuit\t60\t20\t1\nin\nmul\t0\t0\nmul\t1\t1\n' 'too few levels (refusal 6): mul 1 1' 'This circuit fits from L = 2 on, the third number of its header'
 plan_says 6 3 'circuit\t1\t60\t60\nin\nmul\t0\t0\n' 'fits at no L from 1 to 60' 'line 3'
 plan_says 11 3 "$h"'in\nrot\t0\t-32768\n' 'number outside its range' 'T = -32768' 'from -32767 to 32767'
 plan_says 11 2 "$h"'const\t4294967296\n' 'K = 4294967296' 'from 0 to 4294967295'
@@ -315,7 +315,7 @@ says 'at most 1,792 lines'
 
 h='circuit\t60\t20\t2\n'
 check_says 12 "$c" 1 "$h"'in\n' 'schedule\t60\t20\t3\nin\n' 'erases to another circuit (refusal 12): circuit 60 20 2' \
-    "$s:1: erases to: circuit 60 20 3" "F, W and L have to be the circuit's"
+    "$s:1: erases to: circuit 60 20 3" "F, W and L have to be the circuit's, and so has H"
 check_says 12 "$c" 3 "$h"'in\nneg\t0\n' 'schedule\t60\t20\t2\nin\nus\t0\t5\nout\t1\n' ': neg 0' "$s:4: erases to: out 0"
 check_says 12 "$c" 3 "$h"'in\nneg\t0\n' 'schedule\t60\t20\t2\nin\nus\t0\t5\n' ': neg 0' "$s erases to a circuit that ends before this line."
 check_says 12 "$c" 3 "$h"'in\n' 'schedule\t60\t20\t2\nin\nneg\t0\n' 'the file ends before this line' "$s:3: erases to: neg 0"
@@ -404,7 +404,63 @@ to_rising_says 11 3 "$h"'const\t1\nenc\t0\t20\t0\n' 'E = 0' "from 1 to 2, the he
 h='circuit\t60\t20\t2\n'
 check_says 1 "$s" 1 "$h" 'rising\t60\t20\t2\n' 'This is a listing, and a schedule is wanted here'
 
-# ---- Constant numbers: every service gives them back as they are. A circuit and its plan are formats of printf.
+# ---- Headroom, the header's fourth number H: its form and its range
+
+plan_says 1 1 'circuit\t60\t20\t2\t\n' 'A field is empty'
+plan_says 1 1 'circuit\t60\t20\t2\t5\t5\n' '`circuit F W L` has 3 numbers after the word, or 4 with the headroom H, and here are 5.'
+plan_says 1 1 'circuit\t60\t20\t2\t5\t\n' 'A field is empty'
+plan_says 1 1 'circuit\t60\t20\t2\t05\n' '05 is no number'
+plan_says 1 1 'circuit\t60\t20\t2\t-5\n' '-5 is no number'
+plan_says 1 1 'circuit\t60\t20\t2\t+5\n' '+5 is no number'
+plan_says 1 1 'circuit\t60\t20\t2\t4.5\n' '4.5 is no number'
+plan_says 1 1 'circuit\t60\t20\t2\t100000000000\n' '100000000000 is no number: it has 12 digits'
+# What is no number comes before a range.
+plan_says 1 1 'circuit\t61\t20\t2\tx\n' 'x is no number'
+plan_says 2 1 'circuit\t60\t20\t2\t0\n' 'circuit 60 20 2 0' 'H = 0: F, W, L and H are numbers from 1 to 60.' 'the header ends after L'
+plan_says 2 1 'circuit\t60\t20\t2\t61\n' 'H = 61'
+plan_says 2 1 'circuit\t60\t20\t2\t4294967301\n' 'H = 4294967301'
+plan_says 2 1 'circuit\t60\t20\t0\t5\n' 'L = 0: F, W, L and H are numbers'
+# The longest header of the form is shown whole.
+plan_says 2 1 "circuit$(lines 4 '\t99999999999')"'\n' "circuit$(lines 4 ' 99999999999')" 'H = 99999999999'
+picture_says 2 1 "schedule$(lines 4 '\t99999999999')"'\n' ": schedule$(lines 4 ' 99999999999')" 'F = 99999999999' 'H = 99999999999'
+picture_says 1 1 'schedule\t60\t20\t2\t\n' 'A field is empty'
+picture_says 2 1 'schedule\t60\t20\t2\t0\n' 'H = 0'
+from_rising_says 1 1 'rising\t60\t20\t2\t5\t5\n' '`rising F W L` has 3 numbers after the word, or 4 with the headroom H'
+from_rising_says 2 1 'rising\t60\t20\t2\t61\n' 'H = 61'
+to_rising_says 1 1 'rising\t60\t20\t2\t5\n' 'This is a listing, and a schedule is wanted here'
+
+# ---- Headroom: too few levels, scales that just fit and one bit more, another header
+
+levels='in\nmul\t0\t0\nmul\t1\t0\n' # reserves 40, 20 and 0 at L = 1
+plan_says 6 4 'circuit\t60\t20\t1\t1\n'"$levels" 'too few levels (refusal 6): mul 1 0' \
+    'Even the best schedule would leave less than H = 1 bits of reserve at this line.' 'This circuit fits from L = 2 on'
+plan_says 6 3 'circuit\t60\t20\t1\t21\n'"$levels" ': mul 0 0' 'less than H = 21 bits'
+plan_says 6 2 'circuit\t60\t20\t1\t41\n'"$levels" ': in' 'less than H = 41 bits'
+plan_says 6 4 'circuit\t60\t20\t1\t20\n'"$levels" ': mul 1 0'
+plan_says 6 2 'circuit\t1\t60\t60\t1\nin\n' 'fits at no L from 1 to 60; line 2' 'a smaller W, a smaller H or a'
+picture_says 9 2 'schedule\t60\t60\t1\t1\nin\n' 'scale and headroom above the modulus (refusal 9): in' 'scale 60 and level 1, scale + H = 61' \
+    'The scale alone would fit: H = 1 keeps a place for numbers below 2^0' 'so that F*L is at least W + H'
+h='schedule\t60\t20\t2\t5\n'
+picture_says 9 3 "$h"'in\nus\t0\t96\n' 'scale and headroom above the modulus (refusal 9): us 0 96' 'This line would have scale 116 and level 2, scale + H = 121;' \
+    'F*level = 120 bits' 'The scale alone would fit: H = 5 keeps a place for numbers below 2^4 in absolute value.' 'Raise it by less'
+picture_says 9 3 "$h"'in\nus\t0\t101\n' 'scale + H = 126'
+! grep -q 'would fit' "$room/err" || fail "says that a scale above the modulus would fit: $tried"
+picture_says 9 3 "$h"'const\t1\nenc\t0\t56\t1\n' 'scale 56 and level 1, scale + H = 61' 'The scale alone would fit' 'Encode at a smaller scale S'
+picture_says 9 4 "$h"'in\nus\t0\t40\nmul\t1\t1\n' 'scale 120 and level 2, scale + H = 125' 'Lower the scale with `rs` before'
+picture_says 9 3 "$h"'in\nms\t0\t2\n' 'scale 20 and level 0, scale + H = 25' 'The lowest level is 1'
+picture_says 10 4 "$h"'in\nus\t0\t59\nrs\t1\t1\n' 'This line would have scale 19 and level 1; the waterline W is 20'
+to_rising_says 9 3 "$h"'in\nus\t0\t96\n' 'scale + H = 121'
+from_rising_says 9 3 'rising\t60\t20\t2\t5\nin\nus\t0\t96\n' 'This line would have scale 116 and level 0, scale + H = 121' 'F*(L - level) = 120 bits'
+from_rising_says 9 3 'rising\t40\t40\t2\t1\nin\nds\t0\n' 'scale and headroom above the modulus' '`ds` raises it to scale W + F = 80 first, W + F + H = 81,' \
+    'F*(L - level) = 80 bits' 'The scale alone would fit' 'Downscale at a lower level'
+from_rising_says 14 4 'rising\t60\t20\t2\t20\nin\nus\t0\t60\nds\t1\n' '`ds` takes a scale below W + F = 80'
+check_says 12 "$c" 1 'circuit\t60\t20\t2\t5\nin\n' 'schedule\t60\t20\t2\t4\nin\n' ': circuit 60 20 2 5' "$s:1: erases to: circuit 60 20 2 4" \
+    'and so has H: the same number in both, or in neither.'
+check_says 12 "$c" 1 'circuit\t60\t20\t2\t5\nin\n' 'schedule\t60\t20\t2\nin\n' ': circuit 60 20 2 5' "$s:1: erases to: circuit 60 20 2"
+check_says 12 "$c" 1 'circuit\t60\t20\t2\nin\n' 'schedule\t60\t20\t2\t5\nin\n' ': circuit 60 20 2' "$s:1: erases to: circuit 60 20 2 5"
+h='circuit\t60\t20\t2\n'
+
+# ---- Constant numbers and headroom: every service gives them back as they are. A circuit and its plan are formats of printf.
 
 goes_through() { # LEAST_LEVEL CIRCUIT PLAN
     printf "$2" >"$c"
@@ -427,23 +483,39 @@ goes_through 1 "$h$constants"'mul\t0\t4\nadd\t3\t5\nout\t6\n' \
 for shown in 0 65535 65536 4294967295; do
     grep -q ">$shown</text>" "$room/out" || fail "the picture does not show constant $shown"
 done
+# Scales that just fit with H: at L = 1 a best reserve of exactly H, at L = 2 an upscale and a rescale. The least level is one with H.
+goes_through 1 'circuit\t60\t20\t1\t20\nin\nmul\t0\t0\nout\t1\n' 'schedule\t60\t20\t1\t20\nin\nmul\t0\t0\nout\t1\n'
+goes_through 2 'circuit\t60\t20\t2\t21\nin\nmul\t0\t0\nout\t1\n' 'schedule\t60\t20\t2\t21\nin\nmul\t0\t0\nout\t1\n'
+printf 'circuit\t60\t20\t2\t5\nin\nout\t0\n' >"$c"
+printf 'schedule\t60\t20\t2\t5\nin\nus\t0\t95\nrs\t1\t1\nout\t2\n' >"$s"
+try 0 "$command" check "$c" "$s"
+prints_line passed
+goes_out_and_back "$s"
+printf 'rising\t40\t39\t2\t1\nin\nds\t0\n' >"$l"
+try 0 "$command" from-rising "$l"
+prints <(printf 'schedule\t40\t39\t2\t1\nin\nus\t0\t40\nrs\t1\t1\n')
+# The picture has H, and what each reserve leaves above it: 100, 80 and 60 less 5.
+try_picture examples/detune.plan
+for shown in 'headroom H = 5' '>less H<' 'headroom H, which no scale takes up' '>95<' '>75<' '>55<'; do
+    grep -qF -- "$shown" "$room/out" || fail "the picture does not show $shown"
+done
 # The longest circuit and the longest schedule that read.
 constants="$(lines 256 'const\t4294967295\n')"
-goes_through 1 'circuit\t60\t60\t60\n'"$constants" 'schedule\t60\t60\t60\n'"$constants"
+goes_through 1 'circuit\t60\t60\t60\t60\n'"$constants" 'schedule\t60\t60\t60\t60\n'"$constants"
 cp "$c" "$room/longest.circuit"
 cp "$s" "$room/longest.schedule"
-[ "$(wc -c <"$room/longest.circuit")" -eq 4369 ] || fail "the longest circuit has not 4,369 bytes"
+[ "$(wc -c <"$room/longest.circuit")" -eq 4372 ] || fail "the longest circuit has not 4,372 bytes"
 cat "$room/longest.circuit" - <<<"const	4294967295" >"$room/longer.circuit"
 refused 3 "$room/longer.circuit" 258 "$command" plan "$room/longer.circuit"
 constants="$(lines 1792 'const\t4294967295\n')"
-printf 'schedule\t60\t60\t60\n'"$constants" >"$s"
-[ "$(wc -c <"$s")" -eq 30482 ] || fail "the longest schedule has not 30,482 bytes"
+printf 'schedule\t60\t60\t60\t60\n'"$constants" >"$s"
+[ "$(wc -c <"$s")" -eq 30485 ] || fail "the longest schedule has not 30,485 bytes"
 refused 12 "$room/longest.circuit" 258 "$command" check "$room/longest.circuit" "$s"
 says 'keeps more lines than a circuit may have'
 # The longest lines that may stand in a listing and keep the rules.
-printf 'schedule\t60\t60\t60\n'"$(lines 256 'const\t4294967295\n')$(lines 1536 'enc\t255\t3000\t50\n')" >"$s"
+printf 'schedule\t60\t60\t60\t60\n'"$(lines 256 'const\t4294967295\n')$(lines 1536 'enc\t255\t2940\t50\n')" >"$s"
 goes_out_and_back "$s"
-[ "$(grep -c '^enc	255	3000	10$' "$room/listing")" -eq 1536 ] || fail "the levels are not turned: $tried"
+[ "$(grep -c '^enc	255	2940	10$' "$room/listing")" -eq 1536 ] || fail "the levels are not turned: $tried"
 
 # ---- Reading
 
@@ -578,6 +650,7 @@ says_nothing
 for name in plan check erase least-level from-rising to-rising picture; do
     grep -q "^  $name " "$room/out" || fail "help leaves out $name"
 done
+grep -q 'H from 1 to 60' "$room/out" || fail "help leaves out H"
 for name in plan check erase least-level from-rising to-rising picture; do
     try 0 "$command" "$name" --help
     grep -q "^usage: gowashiru $name " "$room/out" || fail "no usage: $tried"
@@ -597,7 +670,7 @@ try 0 make --silent install DESTDIR="$room/installed" PREFIX=/opt
 try 0 "$room/installed/opt/bin/gowashiru" plan "$good"
 prints examples/listing.plan
 grep -qx "Version: $version" "$room/installed/opt/lib/pkgconfig/gowashiru.pc" || fail "another version for pkg-config"
-[ -s "$room/installed/opt/share/man/man1/gowashiru.1" ] || fail "no manual page"
+grep -q 'headroom H' "$room/installed/opt/share/man/man1/gowashiru.1" || fail "no manual page that has H"
 [ -s "$room/installed/opt/share/doc/gowashiru/FORMAT.md" ] || fail "no page on the files"
 sed "s|\.\./include/||" examples/host.c >"$room/host.c"
 sed -i "s|^prefix=|&$room/installed|" "$room/installed/opt/lib/pkgconfig/gowashiru.pc"
@@ -618,6 +691,14 @@ try 1 ./plan.sh <examples/power_16.circuit
 prints examples/power_16.plan
 try 0 ./plan.sh <examples/wavetables.circuit
 prints examples/wavetables.plan
+try 0 ./plan.sh <examples/detune.circuit
+prints examples/detune.plan
+try 1 ./plan.sh <examples/detune_one_level.circuit
+prints examples/detune_one_level.plan
+try 1 ./plan.sh < <(printf 'circuit\t60\t20\t1\t0\n')
+prints <(printf 'refused\t2\t1\n')
+try 1 ./plan.sh < <(printf 'circuit\t60\t20\t1\t5\t5\n')
+prints <(printf 'refused\t1\t1\n')
 try 0 ./plan.sh <"$room/longest.circuit"
 prints "$room/longest.schedule"
 try 1 ./plan.sh <"$room/longer.circuit"
@@ -706,6 +787,6 @@ try 2 env PATH="$room/bin:$bin_without_rt" "$copy/plan.sh" <"$good"
 prints_nothing
 says 'ints is not proved' 'plan cannot be built' 'target/build.log says why'
 
-expected=397
+expected=496
 [ "$count" -eq "$expected" ] || fail "$count cases, not $expected. If it is meant, store the number and say why in the commit."
 echo "command: $count cases as they should be"

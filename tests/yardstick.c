@@ -22,8 +22,8 @@ enum {
     KEPT_LINES = 256,
     FIELD_BYTES = 11,
     TOP_LEVELS = 60,
-    /* The longest header has 18 bytes, the longest line 17: an enc or a const. A word is written as 5 bytes, of which only its own count. */
-    TEXT_BYTES = 18 + 17 * SCHEDULE_LINES + 3
+    /* The longest header has 21 bytes, the longest line 17: an enc or a const. A word is written as 5 bytes, of which only its own count. */
+    TEXT_BYTES = 21 + 17 * SCHEDULE_LINES + 3
 };
 
 /* The words of a circuit come first: erasing keeps their lines. */
@@ -39,8 +39,9 @@ struct line {
     uint16_t first, second, third;
 };
 
+/* The headroom, H, is 0 where the header has three numbers. */
 struct header {
-    int32_t factor, waterline, top_level;
+    int32_t factor, waterline, top_level, headroom;
 };
 
 struct file {
@@ -226,14 +227,18 @@ FOR_EACH_KIND uint32_t read_line(const uint8_t **place, enum word word, enum rea
 
 /* 0, 1 or 2. */
 static inline uint32_t read_header(const uint8_t **place, enum reading reading, struct header *header) {
-    uint64_t factor, waterline, top_level;
+    uint64_t factor, waterline, top_level, headroom = 0;
     const char *word = reading == CIRCUIT ? "circuit" : reading == LISTING ? "rising" : "schedule";
     if (!read_spelling(place, word) || !read_number(place, &factor))
         return 1;
-    if (!read_number(place, &waterline) || !read_number(place, &top_level) || !read_end(place))
+    if (!read_number(place, &waterline) || !read_number(place, &top_level))
         return 1;
-    *header = (struct header){(int32_t)factor, (int32_t)waterline, (int32_t)top_level};
-    return factor - 1 < 60 && waterline - 1 < 60 && top_level - 1 < 60 ? 0 : 2;
+    bool has_headroom = **place == '\t';
+    if ((has_headroom && !read_number(place, &headroom)) || !read_end(place))
+        return 1;
+    *header = (struct header){(int32_t)factor, (int32_t)waterline, (int32_t)top_level, (int32_t)headroom};
+    bool inside = factor - 1 < 60 && waterline - 1 < 60 && top_level - 1 < 60;
+    return inside && (!has_headroom || headroom - 1 < 60) ? 0 : 2;
 }
 
 /* Whether a first field that is a circuit's word stands here: the 257th such line is one too many for erasing. */
@@ -329,6 +334,8 @@ static inline uint8_t *put_header(uint8_t *at, const char *word, const struct he
     at = put_number(at, (uint32_t)header->factor);
     at = put_number(at, (uint32_t)header->waterline);
     at = put_number(at, (uint32_t)header->top_level);
+    if (header->headroom)
+        at = put_number(at, (uint32_t)header->headroom);
     *at++ = '\n';
     return at;
 }
@@ -495,7 +502,7 @@ reply yardstick_plan(const uint8_t *bytes, size_t bytes_len, uint8_t *out, size_
             continue;
         }
         struct step step = step_of(&circuit.header, line, values);
-        if (step.reserve < 0)
+        if (step.reserve < circuit.header.headroom)
             return refused(6, 1, n + 2);
         uint32_t number = put_planned(&draft, &circuit.header, line, values, &step);
         values[n] = (struct value){step.reserve, step.lowest, step.level, number};
@@ -503,7 +510,7 @@ reply yardstick_plan(const uint8_t *bytes, size_t bytes_len, uint8_t *out, size_
     return lend(text, draft.at, out, out_len);
 }
 
-/* The first line with a best reserve below zero, or the number of lines. */
+/* The first line with a best reserve below zero, or below H, or the number of lines. */
 static inline uint32_t first_short(const struct file *circuit, struct value *values) {
     for (uint32_t n = 0; n < circuit->count; n++) {
         if (circuit->lines[n].word == CONST) {
@@ -511,7 +518,7 @@ static inline uint32_t first_short(const struct file *circuit, struct value *val
             continue;
         }
         struct step step = step_of(&circuit->header, &circuit->lines[n], values);
-        if (step.reserve < 0)
+        if (step.reserve < circuit->header.headroom)
             return n;
         values[n] = (struct value){step.reserve, step.lowest, step.level, 0};
     }
@@ -571,8 +578,7 @@ reply yardstick_erase(const uint8_t *bytes, size_t bytes_len, uint8_t *out, size
 
 /* 12: "place of the first circuit line that differs, or one past the shorter file"; 0 where none does. */
 static inline uint32_t first_difference(const struct file *circuit, const struct file *schedule) {
-    const struct header *own = &circuit->header, *other = &schedule->header;
-    if (own->factor != other->factor || own->waterline != other->waterline || own->top_level != other->top_level)
+    if (memcmp(&circuit->header, &schedule->header, sizeof circuit->header))
         return 1;
     uint16_t kept[SCHEDULE_LINES];
     uint16_t next = 0;
@@ -613,12 +619,17 @@ static inline uint32_t apply_rule(const struct header *header, const struct line
     }
 }
 
+/* "Each scale must satisfy scale + H ≤ F·level". */
+static inline bool is_above_modulus(const struct header *header, int32_t scale, int32_t level) {
+    return scale + header->headroom > header->factor * level;
+}
+
 /* "per line 7, 8, 10, 9", or 0. */
 static inline uint32_t rule_fault(const struct header *header, const struct line *line, const struct scaled *held, struct scaled *value) {
     uint32_t fault = apply_rule(header, line, held, value);
     if (fault)
         return fault;
-    return value->scale < header->waterline ? 10 : value->scale > header->factor * value->level ? 9 : 0;
+    return value->scale < header->waterline ? 10 : is_above_modulus(header, value->scale, value->level) ? 9 : 0;
 }
 
 static inline reply first_broken(const struct file *schedule, uint32_t number) {
@@ -685,7 +696,7 @@ static inline uint32_t listing_fault(const struct header *header, const struct l
     const struct scaled *a = &held[line->first];
     int32_t raised = header->waterline + header->factor;
     *value = (struct scaled){header->waterline, a->level - 1};
-    return a->scale >= raised ? 14 : raised > header->factor * a->level ? 9 : 0;
+    return a->scale >= raised ? 14 : is_above_modulus(header, raised, a->level) ? 9 : 0;
 }
 
 /* The lines of a schedule for a line of a listing; what names it later names the last of them. `numbers` has the schedule's numbers. */

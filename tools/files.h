@@ -6,8 +6,8 @@
 #include <stddef.h>
 #include <stdint.h>
 
-/* A good circuit has at most 4,369 bytes, a good schedule at most 30,482 and a good listing at most 30,480, and no line of any form more
- * than 45. So a longer input is refused by what is read here, at the same line and for the same reason, and an endless input ends. */
+/* A good circuit has at most 4,372 bytes, a good schedule at most 30,485 and a good listing at most 30,483, and no line of any form more
+ * than 57. So a longer input is refused by what is read here, at the same line and for the same reason, and an endless input ends. */
 enum { READ_BYTES = 65536 };
 
 enum file_kind { CIRCUIT, SCHEDULE, LISTING };

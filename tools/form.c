@@ -6,8 +6,11 @@
 #include <stdio.h>
 #include <string.h>
 
-/* No line of the form is longer: `schedule` and three numbers of 11 bytes. */
-enum { LINE_BYTES = 44 };
+/* No line of the form is longer: `schedule` and four numbers of 11 bytes. */
+enum { LINE_BYTES = 56 };
+
+/* Numbers of a header without its headroom, and with it. */
+enum { LEAST_HEADER = 3, MOST_HEADER = 4 };
 
 static const char *const header_forms[] = {[CIRCUIT] = "circuit F W L", [SCHEDULE] = "schedule F W L", [LISTING] = "rising F W L"};
 
@@ -105,26 +108,45 @@ static void tell_number(struct piece field) {
     fputs(" is no number: digits, at most 11 bytes, no point, no leading zero, no plus, and a minus only before the T of rot, not before 0.\n", stderr);
 }
 
-/* The number of fields, then each of them. */
-static void tell_fields(struct piece line, const char *form, size_t count, bool has_rotation) {
+/* Tells the first field that is no number; false where each of them is one, of so many at most. */
+static bool tell_wrong_field(struct piece line, size_t most, bool has_rotation) {
     int64_t number;
     for (size_t i = 1; i < field_count(line); i++) {
         struct piece field = field_at(line, i);
-        if (field.length == 0 || (i <= count && !number_of(field, has_rotation && i == 2, &number))) {
+        if (field.length == 0 || (i <= most && !number_of(field, has_rotation && i == 2, &number))) {
             tell_number(field);
-            return;
+            return true;
         }
     }
-    fprintf(stderr, "  `%s` has %zu number%s after the word, and here %s %zu.\n", form, count, count == 1 ? "" : "s",
-            field_count(line) == 2 ? "is" : "are", field_count(line) - 1);
+    return false;
+}
+
+static void tell_found(struct piece line) {
+    fprintf(stderr, ", and here %s %zu.\n", field_count(line) == 2 ? "is" : "are", field_count(line) - 1);
+}
+
+/* Each field, then how many there are. */
+static void tell_fields(struct piece line, const struct word *word) {
+    if (tell_wrong_field(line, word->count, word->count == 2 && word->fields[1] == ROTATION))
+        return;
+    fprintf(stderr, "  `%s` has %zu number%s after the word", word->form, word->count, word->count == 1 ? "" : "s");
+    tell_found(line);
+}
+
+static void tell_header_fields(struct piece line, const char *form) {
+    if (tell_wrong_field(line, MOST_HEADER, false))
+        return;
+    fprintf(stderr, "  `%s` has %d numbers after the word, or %d with the headroom H", form, LEAST_HEADER, MOST_HEADER);
+    tell_found(line);
 }
 
 static void tell_header(const struct file *file, struct piece line) {
     enum file_kind kind;
     if (!kind_of_header(field_at(line, 0), &kind))
-        fprintf(stderr, "  The first line is the header, `%s`: the rescale factor, the waterline and the top level.\n", header_forms[file->kind]);
+        fprintf(stderr, "  The first line is the header, `%s`: the rescale factor, the waterline and the top level; the headroom H may follow.\n",
+                header_forms[file->kind]);
     else if (kind == file->kind)
-        tell_fields(line, header_forms[kind], 3, false);
+        tell_header_fields(line, header_forms[kind]);
     else
         fprintf(stderr, "  This is a %s, and a %s is wanted here: %s\n", kind_names[kind], kind_names[file->kind], ways[file->kind][kind]);
 }
@@ -158,7 +180,7 @@ static void tell_record(const struct file *file, struct piece line) {
         fprintf(stderr, "  `%s` stands in listings in the rising-level dialect alone. In a schedule it is `us`, up to W + F, and `rs` by 1.\n",
                 word->form);
     else
-        tell_fields(line, word->form, word->count, word->count == 2 && word->fields[1] == ROTATION);
+        tell_fields(line, word);
     if (word != NULL && word->count == 1 && word->fields[0] == CONSTANT && field_count(line) == 2)
         fprintf(stderr, "  K is the number under which the host keeps the constant, 0 to %u, and not its value.\n", GOWASHIRU_MOST_CONSTANT);
 }

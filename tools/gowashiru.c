@@ -18,7 +18,7 @@ static const struct command commands[] = {
     {"plan", 0, 1, run_plan,
      "usage: gowashiru plan [-o FILE] [CIRCUIT]\n\n"
      "Prints the schedule of a circuit: the one that leaves each ciphertext line of the circuit the most reserve.\n"
-     "Refused with 6 when no schedule of any length fits at the header's L.\n"},
+     "Refused with 6 when no schedule of any length fits at the header's L and H.\n"},
     {"check", 2, 2, run_check,
      "usage: gowashiru check [-o FILE] CIRCUIT SCHEDULE\n\n"
      "Prints `passed` if each line of the schedule keeps the rules and the schedule erases to the circuit.\n"
@@ -28,7 +28,8 @@ static const struct command commands[] = {
      "Prints the circuit of a schedule, without its enc, rs, ms and us lines. The rules need not hold.\n"},
     {"least-level", 0, 1, run_least_level,
      "usage: gowashiru least-level [-o FILE] [CIRCUIT]\n\n"
-     "Prints the least top level L at which the circuit has a schedule. The header's own L is only tested for its range.\n"},
+     "Prints the least top level L at which the circuit has a schedule. The header's own L is only tested for its range.\n"
+     "Its H, where it has one, holds at each level that is tried.\n"},
     {"from-rising", 0, 1, run_from_rising,
      "usage: gowashiru from-rising [-o FILE] [LISTING]\n\n"
      "Prints the schedule of a listing in the rising-level dialect, where levels count up from 0 and `ds A` brings a\n"
@@ -38,7 +39,8 @@ static const struct command commands[] = {
      "Prints a schedule that keeps the rules as a listing in the rising-level dialect. Nothing becomes a `ds`.\n"},
     {"picture", 0, 1, run_picture,
      "usage: gowashiru picture [-o FILE] [SCHEDULE]\n\n"
-     "Prints an SVG of a schedule that keeps the rules: the scale and the modulus of each line.\n"},
+     "Prints an SVG of a schedule that keeps the rules: the scale, the modulus and the reserve of each line, and where the\n"
+     "header has an H what the reserve leaves above it.\n"},
 };
 
 static const char help[] =
@@ -56,6 +58,8 @@ static const char help[] =
     "  --version     print the version\n\n"
     "A file that is named - is standard input, and so is one that is not named where one is read.\n"
     "A refusal is told on standard error, with the file, the line and what to do.\n"
+    "The first line of a file has the rescale factor F, the waterline W and the top level L, and a fourth number if you want\n"
+    "headroom, H from 1 to 60: then numbers below 2^(H - 1) in absolute value stay below half of the modulus at every line.\n"
     "How the files are written stands in the manual page, gowashiru(1), and in docs/FORMAT.md.\n"
     "Exit status: 0 done; 1 refused; 2 wrong use, or a file that cannot be read or written.\n";
 

@@ -109,9 +109,12 @@ bool record_of(struct piece line, struct record *record) {
 bool header_of(const struct file *file, struct header *header) {
     struct piece line = line_at(file, 1);
     header->is_rising = file->kind == LISTING;
+    header->has_headroom = line.is_there && field_count(line) > 4;
+    header->headroom = 0;
     return line.is_there && number_of(field_at(line, 1), false, &header->factor) &&
            number_of(field_at(line, 2), false, &header->waterline) &&
-           number_of(field_at(line, 3), false, &header->top_level);
+           number_of(field_at(line, 3), false, &header->top_level) &&
+           (!header->has_headroom || number_of(field_at(line, 4), false, &header->headroom));
 }
 
 int64_t turned_level(const struct header *header, int64_t level) {

@@ -32,7 +32,9 @@ struct record {
 
 struct header {
     int64_t factor, waterline, top_level;
-    bool is_rising; /* of a listing, where levels count up from 0 */
+    bool has_headroom;
+    int64_t headroom; /* 0 where none is given */
+    bool is_rising;   /* of a listing, where levels count up from 0 */
 };
 
 extern const struct word known_words[];

@@ -14,14 +14,17 @@
 #define RED "#c0272d"
 #define SCALE_COLOUR "#2b5c9e"
 #define RESERVE "#d3e3f7"
+#define HEADROOM "#9fb8a3"
 #define ENCODED_SCALE "#a8660a"
 #define ENCODED_ROOM "#f9e7c8"
 #define DASHES "stroke=\"" RED "\" stroke-width=\"1.5\" stroke-dasharray=\"6 4\""
 #define OUTLINE "fill=\"none\" stroke=\"" DARK "\" stroke-width=\"1.5\""
 
-/* Sizes of the drawing. A row is as wide as a page; below its bars stand six lines of text. */
-static const double margin = 20, side = 62, bar = 34, right_side = 74, widest = 1100, narrowest = 640;
-static const double heading = 56, above_bars = 14, text_height = 108;
+/* Sizes of the drawing. A row is as wide as a page; below its bars stand six lines of text, and one more where there is headroom. */
+static const double margin = 20, side = 62, bar = 34, right_side = 74, widest = 1100;
+/* A title has room in it, with headroom a longer one. */
+static const double narrowest = 640, narrowest_with_headroom = 780;
+static const double heading = 56, above_bars = 14, text_height = 108, headroom_line = 13;
 
 enum kind { BARE, ENCODED, CIPHERTEXT };
 
@@ -44,7 +47,7 @@ struct picture {
     struct text svg;
     struct value *values;
     size_t count, rows;
-    int64_t factor, waterline, top;
+    struct header header;
     /* The axis goes up to so many levels; a bar of more is cut off. */
     int64_t levels_shown, step;
     bool has_encoded, has_cut;
@@ -83,18 +86,14 @@ static struct value shown(struct piece line, const struct record *record, struct
 
 static bool read_schedule(struct picture *picture, const struct file *schedule) {
     static struct standing held[SCHEDULE_LINES];
-    struct header header;
     struct record record;
     size_t at = 0;
     picture->values = calloc(SCHEDULE_LINES, sizeof *picture->values);
-    if (picture->values == NULL || !header_of(schedule, &header))
+    if (picture->values == NULL || !header_of(schedule, &picture->header))
         return false;
-    picture->factor = header.factor;
-    picture->waterline = header.waterline;
-    picture->top = header.top_level;
     next_line(schedule, &at);
     for (struct piece line = next_line(schedule, &at); line.is_there && record_of(line, &record); line = next_line(schedule, &at)) {
-        held[picture->count] = standing_of(&header, &record, held);
+        held[picture->count] = standing_of(&picture->header, &record, held);
         picture->values[picture->count] = shown(line, &record, held[picture->count]);
         picture->has_encoded |= picture->values[picture->count++].kind == ENCODED;
     }
@@ -116,13 +115,13 @@ static double greater(double a, double b) {
 /* The axis shows every level that is used, but where they are more than four only one more than the scales need: else a low scale could not be seen
  * beside a high modulus. */
 static void fit_axis(struct picture *picture) {
-    int64_t level = 1, scale = picture->waterline;
+    int64_t level = 1, scale = picture->header.waterline, factor = picture->header.factor;
     for (size_t i = 0; i < picture->count; i++) {
         const struct value *value = &picture->values[i];
         level = value->level > level ? value->level : level;
         scale = value->scale > scale ? value->scale : scale;
     }
-    int64_t needed = (scale + picture->factor - 1) / picture->factor + 1;
+    int64_t needed = (scale + factor - 1) / factor + 1;
     picture->has_cut = level > 4 && level > needed;
     picture->levels_shown = picture->has_cut ? needed : level;
 }
@@ -158,7 +157,7 @@ static void lay_out(struct picture *picture) {
     }
     picture->rows++;
     picture->edge = left + longest;
-    picture->total = greater(picture->edge + right_side, narrowest);
+    picture->total = greater(picture->edge + right_side, picture->header.has_headroom ? narrowest_with_headroom : narrowest);
 }
 
 /* A row of bars is lower where there are several. */
@@ -167,15 +166,20 @@ static void fit_height(struct picture *picture) {
     picture->plot = (is_one ? 120 : 90) * (double)picture->levels_shown;
     if (picture->plot > (is_one ? 300 : 180))
         picture->plot = is_one ? 300 : 180;
-    picture->unit = picture->plot / (double)(picture->factor * picture->levels_shown);
+    picture->unit = picture->plot / (double)(picture->header.factor * picture->levels_shown);
     picture->step = 1;
-    while ((double)(picture->step * picture->factor) * picture->unit < 16)
+    while ((double)(picture->step * picture->header.factor) * picture->unit < 16)
         picture->step = picture->step == 1 ? 2 : picture->step == 2 ? 5 : picture->step * 2;
+}
+
+/* The height of the text below a row. */
+static double text_of(const struct picture *picture) {
+    return picture->header.has_headroom ? text_height + headroom_line : text_height;
 }
 
 /* The height at which a row's bars stand, and of so many bits in it. */
 static double base_of(const struct picture *picture, size_t row) {
-    return heading + above_bars + picture->plot + (double)row * (above_bars + picture->plot + text_height);
+    return heading + above_bars + picture->plot + (double)row * (above_bars + picture->plot + text_of(picture));
 }
 
 static double height(const struct picture *picture, size_t row, int64_t bits) {
@@ -207,9 +211,11 @@ static void open_outline(struct picture *picture, double x, double top, double w
 static void draw_bar(struct picture *picture, const struct value *value) {
     bool is_encoded = value->kind == ENCODED, is_cut = value->level > picture->levels_shown;
     double x = value->left + (value->wide - bar) / 2, base = base_of(picture, value->row);
-    double top = height(picture, value->row, picture->factor * (is_cut ? picture->levels_shown : value->level));
+    double top = height(picture, value->row, picture->header.factor * (is_cut ? picture->levels_shown : value->level));
     double filled = height(picture, value->row, value->scale);
     rect(picture, x, top, bar, filled - top, is_encoded ? "fill=\"" ENCODED_ROOM "\"" : "fill=\"" RESERVE "\"");
+    if (picture->header.has_headroom && !is_cut)
+        rect(picture, x, top, bar, (double)picture->header.headroom * picture->unit, "fill=\"" HEADROOM "\"");
     rect(picture, x, filled, bar, base - filled, is_encoded ? "fill=\"" ENCODED_SCALE "\"" : "fill=\"" SCALE_COLOUR "\"");
     if (is_cut)
         open_outline(picture, x, top - 6, bar, base);
@@ -231,30 +237,35 @@ static void draw_text(struct picture *picture, size_t index) {
     number(picture, x, base + 60, value->scale,
            value->kind == ENCODED ? "text-anchor=\"middle\" fill=\"" ENCODED_SCALE "\"" : "text-anchor=\"middle\" fill=\"" SCALE_COLOUR "\"");
     number(picture, x, base + 73, value->level, plain);
-    if (value->kind == CIPHERTEXT)
-        number(picture, x, base + 86, picture->factor * value->level - value->scale, plain);
+    if (value->kind != CIPHERTEXT)
+        return;
+    int64_t reserve = picture->header.factor * value->level - value->scale;
+    number(picture, x, base + 86, reserve, plain);
+    if (picture->header.has_headroom)
+        number(picture, x, base + 99, reserve - picture->header.headroom, plain);
 }
 
 /* The grid of a row, with the bits of each level that has room for them, and what the lines of text below it are. */
 static void draw_axis(struct picture *picture, size_t row) {
-    static const char *const names[] = {"value", "line", "", "scale", "level", "reserve"};
-    static const double below[] = {15, 30, 43, 60, 73, 86};
+    static const char *const names[] = {"value", "line", "", "scale", "level", "reserve", "less H"};
+    static const double below[] = {15, 30, 43, 60, 73, 86, 99};
     double left = margin + side;
+    int64_t factor = picture->header.factor;
     for (int64_t level = 0; level <= picture->levels_shown; level += picture->step) {
         char bits[24];
-        snprintf(bits, sizeof bits, level ? "%" PRId64 " bits" : "%" PRId64, picture->factor * level);
-        double y = height(picture, row, picture->factor * level);
+        snprintf(bits, sizeof bits, level ? "%" PRId64 " bits" : "%" PRId64, factor * level);
+        double y = height(picture, row, factor * level);
         across(picture, left - 6, y, picture->edge + 6, "stroke=\"" RULE "\"");
         words(picture, left - 10, y + 4, bits, "text-anchor=\"end\" fill=\"" GREY "\"");
     }
-    for (int i = 0; i < 6; i++)
+    for (int i = 0; i < (picture->header.has_headroom ? 7 : 6); i++)
         words(picture, left - 10, base_of(picture, row) + below[i], names[i], "text-anchor=\"end\" fill=\"" GREY "\"");
 }
 
 static void draw_waterline(struct picture *picture, size_t row) {
     char bits[24];
-    double left = margin + side - 6, right = picture->edge + 6, y = height(picture, row, picture->waterline);
-    snprintf(bits, sizeof bits, "W = %" PRId64, picture->waterline);
+    double left = margin + side - 6, right = picture->edge + 6, y = height(picture, row, picture->header.waterline);
+    snprintf(bits, sizeof bits, "W = %" PRId64, picture->header.waterline);
     across(picture, left, y, right, "stroke=\"#ffffff\" stroke-opacity=\"0.8\" stroke-width=\"3.5\" stroke-dasharray=\"6 4\"");
     across(picture, left, y, right, DASHES);
     words(picture, right + 4, y + 4, bits, "font-weight=\"bold\" fill=\"" RED "\"");
@@ -287,7 +298,7 @@ static void entry(struct picture *picture, double *x, double *y, enum sign sign,
 
 /* The legend; returns the height at which it ends. */
 static double draw_legend(struct picture *picture) {
-    double x = margin, y = base_of(picture, picture->rows - 1) + text_height;
+    double x = margin, y = base_of(picture, picture->rows - 1) + text_of(picture);
     entry(picture, &x, &y, FRAME, DARK, "modulus, F times level bits");
     if (picture->has_cut)
         entry(picture, &x, &y, OPEN, DARK, "modulus that goes on above the axis");
@@ -297,6 +308,8 @@ static double draw_legend(struct picture *picture) {
         entry(picture, &x, &y, BOX, ENCODED_SCALE, "scale of an encoded constant");
         entry(picture, &x, &y, BOX, ENCODED_ROOM, "modulus less that scale");
     }
+    if (picture->header.has_headroom)
+        entry(picture, &x, &y, BOX, HEADROOM, "headroom H, which no scale takes up");
     entry(picture, &x, &y, DASHED, RED, "waterline W, the least scale");
     entry(picture, &x, &y, GRID, RULE, picture->step == 1 ? "the modulus at each level" : "the modulus at some levels");
     entry(picture, &x, &y, BOLD, DARK, "a line of the circuit");
@@ -316,10 +329,17 @@ static void draw_rows(struct picture *picture) {
         draw_text(picture, i);
 }
 
+static void title_of(const struct picture *picture, char *title, size_t room) {
+    const struct header *header = &picture->header;
+    int length = snprintf(title, room, "Schedule: rescale factor F = %" PRId64 ", waterline W = %" PRId64 ", top level L = %" PRId64, header->factor,
+                          header->waterline, header->top_level);
+    if (header->has_headroom)
+        snprintf(title + length, room - (size_t)length, ", headroom H = %" PRId64, header->headroom);
+}
+
 static void draw(struct picture *picture) {
     char title[128];
-    snprintf(title, sizeof title, "Schedule: rescale factor F = %" PRId64 ", waterline W = %" PRId64 ", top level L = %" PRId64, picture->factor,
-             picture->waterline, picture->top);
+    title_of(picture, title, sizeof title);
     /* Drawn once to find the height, and then anew: the height stands first in the file. */
     double high = draw_legend(picture);
     picture->svg.length = 0;

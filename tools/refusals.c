@@ -21,13 +21,16 @@ static void tell_not_of_the_form(const struct refusal *refusal) {
 }
 
 static void tell_header_number(const struct refusal *refusal) {
-    static const char names[] = {'F', 'W', 'L'};
+    static const char names[] = {'F', 'W', 'L', 'H'};
     struct header header = {.factor = 0};
     header_of(refusal->file, &header);
-    const int64_t numbers[] = {header.factor, header.waterline, header.top_level};
-    for (size_t i = 0; i < sizeof names; i++)
+    const int64_t numbers[] = {header.factor, header.waterline, header.top_level, header.headroom};
+    for (size_t i = 0; i < (header.has_headroom ? 4 : 3); i++)
         if (numbers[i] < 1 || numbers[i] > 60)
-            fprintf(stderr, "  %c = %" PRId64 ": F, W and L are numbers from 1 to 60.\n", names[i], numbers[i]);
+            fprintf(stderr, "  %c = %" PRId64 ": %s are numbers from 1 to 60.\n", names[i], numbers[i],
+                    header.has_headroom ? "F, W, L and H" : "F, W and L");
+    if (header.has_headroom && header.headroom == 0)
+        fputs("  Where no headroom is wanted, the header ends after L.\n", stderr);
 }
 
 /* How many lines after the header, up to this place, have a word whose first kind of file is this one. */
@@ -59,15 +62,18 @@ static void tell_lines(const struct refusal *refusal) {
 
 static void tell_levels(const struct refusal *refusal) {
     const struct file *circuit = refusal->file;
+    struct header header = {.factor = 0};
     struct gowashiru_reply least = gowashiru_least_level(circuit->bytes, circuit->length);
+    if (header_of(circuit, &header) && header.has_headroom)
+        fprintf(stderr, "  Even the best schedule would leave less than H = %" PRId64 " bits of reserve at this line.\n", header.headroom);
     if (least.number == GOWASHIRU_DONE)
-        fprintf(stderr, "  This circuit fits from L = %" PRIu32 " on, the last number of its header; with fewer levels it has no schedule.\n",
+        fprintf(stderr, "  This circuit fits from L = %" PRIu32 " on, the third number of its header; with fewer levels it has no schedule.\n",
                 least.length);
     else
         fprintf(stderr,
-                "  This circuit fits at no L from 1 to 60; line %" PRIu32 " does not at L = 60. Fewer products in a row, a smaller W or a\n"
+                "  This circuit fits at no L from 1 to 60; line %" PRIu32 " does not at L = 60. Fewer products in a row, a smaller W%s or a\n"
                 "  greater F need fewer levels.\n",
-                least.place);
+                least.place, header.has_headroom ? ", a smaller H" : "");
 }
 
 /* The schedule's line that erasing keeps as the one at this place; 0 if there is none. */
@@ -101,7 +107,7 @@ static void tell_erasure(const struct refusal *refusal) {
         show_line(line);
         fputc('\n', stderr);
     }
-    fputs(refusal->place == 1 ? "  The schedule's F, W and L have to be the circuit's.\n"
+    fputs(refusal->place == 1 ? "  The schedule's F, W and L have to be the circuit's, and so has H: the same number in both, or in neither.\n"
                               : "  Change the one that is wrong, or plan the circuit anew.\n", stderr);
 }
 
@@ -127,10 +133,19 @@ static const struct telling tellings[] = {
     [GOWASHIRU_TOO_HIGH_FOR_DS] = {"scale too high for ds", false, tell_broken_rule},
 };
 
+/* With headroom it is not the scale alone that the modulus has to hold. */
+static const char *title_of(const struct refusal *refusal) {
+    struct header header;
+    bool is_above = refusal->number == GOWASHIRU_ABOVE_MODULUS;
+    if (is_above && header_of(refusal->file, &header) && header.has_headroom)
+        return "scale and headroom above the modulus";
+    return tellings[refusal->number].title;
+}
+
 void tell_refusal(const struct refusal *refusal) {
     const struct telling *telling = &tellings[refusal->number];
     struct piece line = line_at(refusal->file, refusal->place);
-    fprintf(stderr, "%s:%" PRIu32 ": %s (refusal %" PRIu32 "): ", refusal->file->name, refusal->place, telling->title,
+    fprintf(stderr, "%s:%" PRIu32 ": %s (refusal %" PRIu32 "): ", refusal->file->name, refusal->place, title_of(refusal),
             refusal->number);
     if (!line.is_there)
         fputs("the file ends before this line", stderr);

@@ -49,10 +49,19 @@ static void tell_operands(const struct header *header, const struct record *reco
     }
 }
 
-static void tell_line(const struct header *header, struct standing line) {
-    fprintf(stderr, "  This line would have scale %" PRId64 " and level %" PRId64 "; the waterline W is %" PRId64
-            ", the modulus at this level %s = %" PRId64 " bits.\n",
-            line.scale, turned_level(header, line.level), header->waterline, wording_of(header)->modulus, header->factor * line.level);
+static void tell_line(const struct header *header, struct standing line, bool is_above) {
+    fprintf(stderr, "  This line would have scale %" PRId64 " and level %" PRId64, line.scale, turned_level(header, line.level));
+    if (is_above && header->has_headroom)
+        fprintf(stderr, ", scale + H = %" PRId64, line.scale + header->headroom);
+    fprintf(stderr, "; the waterline W is %" PRId64 ", the modulus at this level %s = %" PRId64 " bits.\n", header->waterline,
+            wording_of(header)->modulus, header->factor * line.level);
+}
+
+/* Where the modulus holds the scale and only the headroom is too much. */
+static void tell_headroom(const struct header *header, int64_t scale, int64_t level) {
+    if (header->has_headroom && scale <= header->factor * level)
+        fprintf(stderr, "  The scale alone would fit: H = %" PRId64 " keeps a place for numbers below 2^%" PRId64 " in absolute value.\n",
+                header->headroom, header->headroom - 1);
 }
 
 /* The operand that is an encoded constant, which only its own `enc` line can change, or -1. */
@@ -76,9 +85,11 @@ static void tell_difference(const struct record *record, const struct standing *
             record->numbers[difference > 0 ? 1 : 0], difference > 0 ? difference : -difference);
 }
 
-static void tell_bounds_remedy(const struct wording *wording, bool is_above, const struct word *word, int64_t level) {
+static void tell_bounds_remedy(const struct header *header, bool is_above, const struct word *word, int64_t level) {
+    const struct wording *wording = wording_of(header);
     if (strcmp(word->name, "in") == 0)
-        fprintf(stderr, "  %s: give the header a greater L, so that F*L is at least W.\n", wording->input);
+        fprintf(stderr, "  %s: give the header a greater L, so that F*L is at least %s.\n", wording->input,
+                header->has_headroom ? "W + H" : "W");
     else if (strcmp(word->name, "enc") == 0)
         fprintf(stderr, "  %s.\n", is_above ? wording->encoding_above : "Encode at a scale S of at least W");
     else if (level < 1)
@@ -104,12 +115,17 @@ static void tell_pair_remedy(const struct refusal *refusal, const struct header 
 /* A downscale is an upscale to W + F and a rescale. Where the scale is there already, the rescale alone is legal. */
 static void tell_downscale(bool is_too_high, const struct header *header, struct standing operand) {
     int64_t raised = header->waterline + header->factor;
-    if (is_too_high)
+    if (is_too_high) {
         fprintf(stderr, "  `ds` takes a scale below W + F = %" PRId64 ": here `rs A 1` is enough, and leaves scale %" PRId64 ".\n", raised,
                 operand.scale - header->factor);
-    else
-        fprintf(stderr, "  `ds` raises it to scale W + F = %" PRId64 " first, and the modulus at its level is F*(L - level) = %" PRId64 " bits.\n"
-                "  Downscale at a lower level, or give the header a greater L.\n", raised, header->factor * operand.level);
+        return;
+    }
+    fprintf(stderr, "  `ds` raises it to scale W + F = %" PRId64 " first", raised);
+    if (header->has_headroom)
+        fprintf(stderr, ", W + F + H = %" PRId64, raised + header->headroom);
+    fprintf(stderr, ", and the modulus at its level is F*(L - level) = %" PRId64 " bits.\n", header->factor * operand.level);
+    tell_headroom(header, raised, operand.level);
+    fputs("  Downscale at a lower level, or give the header a greater L.\n", stderr);
 }
 
 void tell_broken_rule(const struct refusal *refusal) {
@@ -129,6 +145,9 @@ void tell_broken_rule(const struct refusal *refusal) {
         return;
     }
     struct standing line = standing_of(&header, &record, held);
-    tell_line(&header, line);
-    tell_bounds_remedy(wording_of(&header), refusal->number == GOWASHIRU_ABOVE_MODULUS, record.word, line.level);
+    bool is_above = refusal->number == GOWASHIRU_ABOVE_MODULUS;
+    tell_line(&header, line, is_above);
+    if (is_above)
+        tell_headroom(&header, line.scale, line.level);
+    tell_bounds_remedy(&header, is_above, record.word, line.level);
 }

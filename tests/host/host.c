@@ -31,6 +31,7 @@ enum {
     ENOUGH = GOWASHIRU_ENOUGH_BYTES,
     GUARD = 64,           /* bytes before and after each lent buffer */
     MOST_GROWTH = 256,    /* KiB */
+    LONGEST_CIRCUIT = 4372,
     MOST_INPUTS = 2048,
     MOST_JOBS = 4096,
     MOST_THREADS = 64,
@@ -332,6 +333,13 @@ static void expect(const struct job *job, uint32_t number, uint32_t file, uint32
         fail_reply(job, job->reply, due);
 }
 
+static void expect_level(const struct job *job, uint32_t level)
+{
+    struct gowashiru_reply due = {0, 0, 0, level};
+    if (!same_reply(job->reply, due))
+        fail_reply(job, job->reply, due);
+}
+
 static struct job *add_plan(const struct input *circuit, size_t room)
 {
     return add_job((struct job){.service = PLAN, .file = circuit, .room = room});
@@ -598,10 +606,13 @@ static void try_constants(void)
     expect(add_check(find("constant 65535.circuit"), find("constant 4294967295.schedule")), 12, 1, 3);
     expect(add_check(find("constant 4294967295.circuit"), find("constant 65535.schedule")), 12, 1, 3);
 
-    put("circuit\t60\t60\t60\n");
+    /* No circuit that can be read is longer. */
+    put("circuit\t60\t60\t60\t60\n");
     for (int value = 0; value < 256; value++)
         put("const\t4294967295\n");
     const struct input *longest = take("256 constants.circuit");
+    if (longest->length != LONGEST_CIRCUIT)
+        die("%s has %zu bytes, not %d", longest->name, longest->length, LONGEST_CIRCUIT);
     const struct job *plan = add_plan(longest, ENOUGH);
     expect(plan, 0, 0, 0);
     try_rooms(plan);
@@ -702,6 +713,115 @@ static void try_listings(void)
     expect(add_from_rising(with_downscales(1, 1, "ds\t1\n"), ENOUGH), 9, 1, 4);
     expect(add_from_rising(with_downscales(1, 1, "const\t4294967295\nenc\t2\t20\t2\n"), ENOUGH), 11, 1, 5);
     expect(add_from_rising(with_downscales(1, 0, "ds\t99999999999\n"), ENOUGH), 4, 1, 3);
+}
+
+/* A file of this header word, F, W and L, an H where it is not NULL, and these lines. */
+static const struct input *with_headroom(const char *word, const char *numbers, const char *headroom, const char *lines)
+{
+    char name[64];
+    put("%s\t%s%s%s\n%s", word, numbers, headroom ? "\t" : "", headroom ? headroom : "", lines);
+    snprintf(name, sizeof name, "H %s.%s", headroom ? headroom : "none", word);
+    return take(name);
+}
+
+/* Document 01's worked circuit leaves 20 bits of reserve at its last product: its plan has an H up to 20 in its header and the lines of the
+ * plan without, and 21 asks for a level more. With F = 1 no level is left. */
+static void try_headroom_of_plans(void)
+{
+    static const char circuit_lines[] = "in\nconst\t7\nmul\t0\t1\nmul\t2\t1\nmul\t3\t3\nout\t4\n";
+    static const char plan_lines[] = "in\nconst\t7\nenc\t1\t20\t2\nmul\t0\t2\nenc\t1\t20\t2\nmul\t3\t4\nus\t5\t20\nrs\t6\t1\n"
+                                     "us\t5\t20\nrs\t8\t1\nmul\t7\t9\nout\t10\n";
+    static const char *const fitting[] = {NULL, "1", "5", "20"};
+    for (size_t i = 0; i < sizeof fitting / sizeof fitting[0]; i++) {
+        const struct input *circuit = with_headroom("circuit", "60\t20\t2", fitting[i], circuit_lines);
+        const struct job *plan = add_plan(circuit, ENOUGH);
+        expect_bytes(plan, with_headroom("schedule", "60\t20\t2", fitting[i], plan_lines));
+        expect_level(add_least(circuit), 2);
+        try_rooms(plan);
+        close_circle(plan);
+    }
+    const struct input *over = with_headroom("circuit", "60\t20\t2", "21", circuit_lines);
+    expect(add_plan(over, ENOUGH), 6, 1, 6);
+    expect_level(add_least(over), 3);
+    expect_level(add_least(with_headroom("circuit", "1\t30\t1", NULL, "in\n")), 30);
+    expect_level(add_least(with_headroom("circuit", "1\t30\t1", "30", "in\n")), 60);
+    expect(add_least(with_headroom("circuit", "1\t30\t1", "31", "in\n")), 6, 1, 2);
+}
+
+/* A scale with which H just fills the modulus, and one bit more: at an input, an encoded constant and an upscale. */
+static void try_headroom_of_scales(void)
+{
+    static const struct {
+        const char *fits, *breaks, *circuit, *schedule;
+        uint32_t place;
+    } rules[] = {
+        {"40", "41", "in\n", "in\n", 2},
+        {"20", "21", "const\t7\n", "const\t7\nenc\t0\t40\t1\n", 3},
+        {"20", "21", "in\n", "in\nus\t0\t20\n", 3},
+    };
+    for (size_t i = 0; i < sizeof rules / sizeof rules[0]; i++) {
+        const struct input *schedule = with_headroom("schedule", "60\t20\t1", rules[i].fits, rules[i].schedule);
+        const struct input *circuit = with_headroom("circuit", "60\t20\t1", rules[i].fits, rules[i].circuit);
+        expect(add_check(circuit, schedule), 0, 0, 0);
+        expect_bytes(add_erase(schedule, ENOUGH), circuit);
+        expect(go_out_and_back(schedule), 0, 0, 0);
+        schedule = with_headroom("schedule", "60\t20\t1", rules[i].breaks, rules[i].schedule);
+        circuit = with_headroom("circuit", "60\t20\t1", rules[i].breaks, rules[i].circuit);
+        expect(add_check(circuit, schedule), 9, 2, rules[i].place);
+        expect_bytes(add_erase(schedule, ENOUGH), circuit);
+        expect(add_to_rising(schedule, ENOUGH), 9, 1, rules[i].place);
+    }
+}
+
+/* H in one file alone, and another H, before every rule. */
+static void try_another_headroom(void)
+{
+    static const char *const pairs[][2] = {{"5", NULL}, {NULL, "5"}, {"5", "6"}, {"60", "6"}, {NULL, "60"}};
+    for (size_t i = 0; i < sizeof pairs / sizeof pairs[0]; i++)
+        expect(add_check(with_headroom("circuit", "60\t20\t1", pairs[i][0], "in\n"),
+                         with_headroom("schedule", "60\t20\t1", pairs[i][1], "in\n")),
+               12, 1, 1);
+}
+
+/* A downscale at level 2 of F = 60 and W = 20 leaves 40 bits; an H is kept each way. */
+static void try_headroom_of_listings(void)
+{
+    static const char lines[] = "in\nds\t0\nconst\t7\nenc\t2\t20\t1\nadd\t1\t3\n";
+    static const char converted_lines[] = "in\nus\t0\t60\nrs\t1\t1\nconst\t7\nenc\t3\t20\t1\nadd\t2\t4\n";
+    static const char *const fitting[] = {NULL, "1", "40"};
+    for (size_t i = 0; i < sizeof fitting / sizeof fitting[0]; i++) {
+        const struct job *converted = add_from_rising(with_headroom("rising", "60\t20\t2", fitting[i], lines), ENOUGH);
+        expect_bytes(converted, with_headroom("schedule", "60\t20\t2", fitting[i], converted_lines));
+        try_converted(converted);
+    }
+    expect(add_from_rising(with_headroom("rising", "60\t20\t2", "41", lines), ENOUGH), 9, 1, 3);
+    expect(add_from_rising(with_headroom("rising", "60\t20\t2", "40", "in\nus\t0\t60\nds\t1\n"), ENOUGH), 14, 1, 4);
+    expect(add_from_rising(with_headroom("rising", "60\t20\t1", "41", "in\n"), ENOUGH), 9, 1, 2);
+}
+
+/* Headers whose fourth number is outside its range, or is none, or has a fifth behind it: refused by every call. */
+static void try_damaged_headroom(void)
+{
+    static const struct {
+        const char *headroom;
+        uint32_t due;
+    } faults[] = {
+        {"0", 2}, {"61", 2}, {"65537", 2}, {"4294967301", 2}, {"99999999999", 2}, {"", 1}, {"05", 1}, {"-5", 1}, {"+5", 1}, {"x", 1},
+        {"100000000000", 1}, {"5\t5", 1}, {"5\t", 1}, {"61\tx", 1},
+    };
+    const struct input *good = with_headroom("circuit", "60\t20\t2", "5", "in\n");
+    for (size_t i = 0; i < sizeof faults / sizeof faults[0]; i++) {
+        uint32_t due = faults[i].due;
+        const struct input *circuit = with_headroom("circuit", "60\t20\t2", faults[i].headroom, "in\n");
+        const struct input *schedule = with_headroom("schedule", "60\t20\t2", faults[i].headroom, "in\n");
+        expect(add_plan(circuit, ENOUGH), due, 1, 1);
+        expect(add_least(circuit), due, 1, 1);
+        expect(add_check(circuit, schedule), due, 1, 1);
+        expect(add_check(good, schedule), due, 2, 1);
+        expect(add_erase(schedule, ENOUGH), due, 1, 1);
+        expect(add_to_rising(schedule, ENOUGH), due, 1, 1);
+        expect(add_from_rising(with_headroom("rising", "60\t20\t2", faults[i].headroom, "in\n"), ENOUGH), due, 1, 1);
+    }
 }
 
 /* An example cut after each byte, and with one bit of each byte turned: short calls, most of them refused. */
@@ -904,6 +1024,33 @@ static unsigned long number_from(const char *text, unsigned long most)
     return number;
 }
 
+/* Notes what every call replies and writes, and holds it to what is due. */
+static void first_pass(const char *folder)
+{
+    int circuits = try_all(folder, ".circuit", try_circuit);
+    int schedules = try_all(folder, ".schedule", try_schedule);
+    try_long_circuits();
+    try_long_schedules();
+    try_listings();
+    try_constants();
+    try_large_constants();
+    try_headroom_of_plans();
+    try_headroom_of_scales();
+    try_another_headroom();
+    try_headroom_of_listings();
+    try_damaged_headroom();
+    try_null();
+    whole_count = job_count;
+    try_damaged("listing.circuit", try_damaged_circuit);
+    try_damaged("listing.by_hand.schedule", try_damaged_schedule);
+    try_damaged("proactive.rising", try_damaged_listing);
+    try_damaged("H 20.circuit", try_damaged_circuit);
+    try_damaged("H 20.schedule", try_damaged_schedule);
+    try_damaged("H 40.rising", try_damaged_listing);
+    printf("first pass: %d circuits, %d schedules, %zu inputs in all, %zu calls to repeat\n", circuits, schedules,
+           input_count, job_count);
+}
+
 int main(int count, char **words)
 {
     static uint8_t fault_stack[FAULT_STACK];
@@ -921,20 +1068,7 @@ int main(int count, char **words)
     }
     const char *folder = optind < count ? words[optind] : "../../examples";
     watch_faults(fault_stack);
-    int circuits = try_all(folder, ".circuit", try_circuit);
-    int schedules = try_all(folder, ".schedule", try_schedule);
-    try_long_circuits();
-    try_long_schedules();
-    try_listings();
-    try_constants();
-    try_large_constants();
-    try_null();
-    whole_count = job_count;
-    try_damaged("listing.circuit", try_damaged_circuit);
-    try_damaged("listing.by_hand.schedule", try_damaged_schedule);
-    try_damaged("proactive.rising", try_damaged_listing);
-    printf("first pass: %d circuits, %d schedules, %zu inputs in all, %zu calls to repeat\n", circuits, schedules,
-           input_count, job_count);
+    first_pass(folder);
     try_overlap(PLAN);
     try_overlap(ERASE);
     try_overlap(FROM_RISING);

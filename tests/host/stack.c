@@ -108,7 +108,7 @@ static void make_schedule(const char *last)
     take();
 }
 
-/* Full files of the longest constant numbers: each used once, alone, and with their encodings. */
+/* Full files of the longest constant numbers: each used once, alone, and with their encodings, to which the headroom leaves just room. */
 static void make_constants(void)
 {
     put("circuit\t60\t20\t60\nin\n");
@@ -116,17 +116,17 @@ static void make_constants(void)
         put("const\t4294967295\nmul\t%d\t%d\n", value - 1, value);
     put("out\t254\n");
     take();
-    put("circuit\t60\t60\t60\n");
+    put("circuit\t60\t60\t60\t60\n");
     for (int value = 0; value < 256; value++)
         put("const\t4294967295\n");
     take();
-    put("schedule\t60\t60\t60\n");
+    put("schedule\t60\t60\t60\t60\n");
     for (int value = 0; value < 1792; value++)
         put("const\t4294967295\n");
     take();
-    put("schedule\t60\t20\t60\n");
+    put("schedule\t60\t20\t60\t60\n");
     for (int value = 0; value < 1792; value++)
-        put(value % 7 ? "enc\t%d\t3600\t60\n" : "const\t4294967295\n", value / 7 * 7);
+        put(value % 7 ? "enc\t%d\t3540\t60\n" : "const\t4294967295\n", value / 7 * 7);
     take();
 }
 
@@ -147,11 +147,11 @@ static void make_listings(void)
     make_listing("ds\t99999999999\n");
     make_listing("enc\t99999999999\t99999999999\t99999999999\n");
     make_listing("rot\t99999999999\t-9999999999\n");
-    put("rising\t60\t20\t2\n");
+    put("rising\t60\t20\t2\t40\n");
     for (int value = 0; value < 946; value++)
         put(value < 100 ? "in\n" : "ds\t0\n");
     take();
-    put("rising\t99999999999\t99999999999\t99999999999\n");
+    put("rising\t99999999999\t99999999999\t99999999999\t99999999999\n");
     take();
 }
 
@@ -166,7 +166,7 @@ static void make_inputs(void)
     for (int value = 1; value < 256; value++)
         put("neg\t%d\n", value - 1);
     take();
-    put("circuit\t99999999999\t99999999999\t99999999999\n");
+    put("circuit\t99999999999\t99999999999\t99999999999\t99999999999\n");
     take();
     make_schedule("us\t1790\t1\n");
     make_schedule("enc\t99999999999\t99999999999\t99999999999\n");
@@ -175,7 +175,7 @@ static void make_inputs(void)
     make_schedule("const\t99999999999\n");
     make_constants();
     make_listings();
-    put("schedule\t99999999999\t99999999999\t99999999999\n");
+    put("schedule\t99999999999\t99999999999\t99999999999\t99999999999\n");
     take();
     /* The plan of the first circuit, its longest schedule with all kinds of conversions. */
     struct gowashiru_reply reply =

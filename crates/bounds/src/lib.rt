@@ -1,4 +1,4 @@
-// The bounds of a scale and a level: W ≤ scale ≤ F·level. Both may be below zero here, as after a rescale past zero.
+// The bounds of a scale and a level: W ≤ scale, and scale and headroom ≤ F·level. Both may be below zero here, as after a rescale past zero.
 use model::Header;
 ghost use mathlib.Core.Path.{_≡_};
 ghost use Prim.Native.Nat.{_≤_};

@@ -18,8 +18,21 @@ use Rattle.model.specs.declared.Choice.{Choice}
 use Rattle.model.specs.Scales.{modulus}
 use Rattle.model.specs.Plan.{lowestLevel, smaller, atWaterline, inputChoice, unchangedChoice, timesConstantChoice, constantTimesChoice, unequalChoice, sameLevelChoice, levelBelowChoice, greaterElseLower, productChoice}
 use Rattle.model.proofs.Levels.{fits}
+use Rattle.model.proofs.Tests.{HeaderFacts}
 use Rattle.choices.specs.Ranges.{HeaderRanges, Small}
 use Rattle.choices.proofs.Readings.{held, by-small, fits-by-parts, small-fits, result-held, small-held, held-small, cast-is, size-most, size-held, cast-positive, cast-fits, test-le, test-lt}
+
+-- ---- the header
+pub ranges : (h : Header) → HeaderFacts h → HeaderRanges h
+ranges h H =
+    record {
+      factor-least = H .factor .least;
+      factor-most = H .factor .most;
+      waterline-least = H .waterline .least;
+      waterline-most = H .waterline .most;
+      top-least = H .top .least;
+      top-most = H .top .most;
+    }
 
 -- ---- the modulus
 pub modulus-fits : (h : Header) (l : ℕ) → h .factor * l ≤ 3719 → Fits w32 (h .factor * l)

@@ -1,5 +1,6 @@
 // Erases the table of a schedule to that of its circuit, and compares a circuit with what a schedule erases to.
 use model::Header;
+use model::Headroom;
 use tables::Record;
 ghost use mathlib.Core.Path.{_≡_};
 ghost use Prim.Native.Nat.{_≤_, _<_};
@@ -10,7 +11,8 @@ ghost use Rattle.model.specs.declared.Line.the-variants.{Free};
 ghost use Rattle.model.specs.declared.Grammar.the-variants.{Circuit, Schedule};
 ghost use Rattle.model.specs.Files.{isWord};
 ghost use Rattle.model.specs.Services.{erase};
-ghost use Rattle.model.specs.Answers.{sameHeader, rulesAnswer, check};
+ghost use Rattle.model.specs.Scales.{headroomNumbers};
+ghost use Rattle.model.specs.Answers.{sameNumbers, sameHeader, rulesAnswer, check};
 ghost use Rattle.text.specs.Tables.{TableFormed, fileOf};
 ghost use Rattle.tables.specs.Operands.{firstOperand, secondOperand};
 ghost use Rattle.tables.specs.Records.{lineOf, linesOf, linesHeld, freeRecords, held};
@@ -82,6 +84,22 @@ pub enum Compared {
     Differs { place: u32 },
 }
 
+// Whether two headers have the same headroom, or both none.
+fn same_headroom(one: Headroom, other: Headroom) -> bool
+    ensures { λ r. ⌜ r ≡ sameNumbers (headroomNumbers one) (headroomNumbers other) ⌝ }
+{
+    match one {
+        Headroom::None => match other {
+            Headroom::None => true,
+            Headroom::Given(_) => false,
+        },
+        Headroom::Given(bits) => match other {
+            Headroom::None => false,
+            Headroom::Given(others) => bits == others,
+        },
+    }
+}
+
 // Whether two headers are the same.
 fn same_header(one: Header, other: Header) -> bool
     ensures { λ r. ⌜ r ≡ sameHeader one other ⌝ }
@@ -92,7 +110,12 @@ fn same_header(one: Header, other: Header) -> bool
     if one.waterline != other.waterline {
         return false;
     }
-    one.top == other.top
+    if one.top != other.top {
+        return false;
+    }
+    let given = one.headroom;
+    let others = other.headroom;
+    same_headroom(given, others)
 }
 
 // Whether a circuit's lines go on with this record's line at `at`.

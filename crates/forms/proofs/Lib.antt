@@ -1,5 +1,5 @@
 pub mod AlongLaws
 mod RangeLaws
-mod StepLaws
+pub mod StepLaws
 pub mod WordLaws
 pub mod TextLaws

@@ -33,6 +33,8 @@ use Rattle.fields.proofs.NumberLaws.{number-below, amount-below}
 use Rattle.fields.proofs.FieldLaws.{begins-is}
 use Rattle.fields.proofs.PieceLaws.{split-some}
 use Rattle.rows.specs.Fields.{Holds, operand, amount, natural, signed, both, readFields}
+use Rattle.rows.proofs.FieldLaws as F
+use Rattle.rows.proofs.FieldLaws.{Held}
 use Rattle.forms.specs.declared.NumbersAt.{NumbersAt}
 use Rattle.forms.specs.declared.NumbersAt.the-variants.{Numbers, NotOfForm, OutOfRange}
 use Rattle.forms.specs.Along.{lineIn, isClosed, numbersIn}
@@ -51,7 +53,7 @@ no-tab f fs (b ∷ bs) e = rw e (go (eqb b 10))
     go true = refl
     go false = refl
 
-no-line-feed : (t : Bytes) → begins lineFeed t ≡ false → numbersIn [] t ≡ none
+pub no-line-feed : (t : Bytes) → begins lineFeed t ≡ false → numbersIn [] t ≡ none
 unfolding numbersIn begins readFields
 no-line-feed [] e = refl
 no-line-feed (b ∷ bs) e = rw e (go (eqb b tab && isClosed bs) (split tab (lineIn bs)) (split-some tab (lineIn bs)))
@@ -61,11 +63,11 @@ no-line-feed (b ∷ bs) e = rw e (go (eqb b tab && isClosed bs) (split tab (line
     go true (p ∷ ps) h = refl
     go false ps h = refl
 
-line-feed : (t : Bytes) → begins lineFeed t ≡ true → numbersIn [] t ≡ some []
+pub line-feed : (t : Bytes) → begins lineFeed t ≡ true → numbersIn [] t ≡ some []
 unfolding numbersIn readFields
 line-feed t e = ap (numbersIn []) (begins-is lineFeed t e)
 
-line-feed-here : (t : Bytes) → begins lineFeed t ≡ true → length (lineIn t) ≡ 0
+pub line-feed-here : (t : Bytes) → begins lineFeed t ≡ true → length (lineIn t) ≡ 0
 unfolding lineIn
 line-feed-here t e = ap (λ (u : Bytes). length (lineIn u)) (begins-is lineFeed t e)
 
@@ -88,7 +90,7 @@ line-amount (b ∷ bs) =
     elim (ℕ-discrete b 45) [ yes e ↦ rw e (omega (arith, line-digits bs)) | no n ↦ rw (amount-in-plain b bs n) (line-digits (b ∷ bs)) ]
 
 -- where the line ends
-abbrev line-end : Bytes → ℕ → ℕ
+abbrev pub line-end : Bytes → ℕ → ℕ
 line-end s at = at + length (lineIn (drop at s))
 
 abbrev holds : Bool → Holds
@@ -100,6 +102,7 @@ machine z = toZ w64 (ofZ w64 z)
 -- ---- a field that was read: a small number, against the caller's largest; the line ends where it did, and the other fields are left to be read
 record FieldRead (b : Bool) (largest : ℕ) (s : Bytes) (at : ℕ) (size : Size) (end : ℕ) : Type 0 where
   number : ℤ
+  held : Held (holds b) number
   sized : size ≡ sizeOf largest number
   small : Small number
   line : line-end s at ≡ line-end s end
@@ -125,6 +128,7 @@ module _ (largest : ℕ) (s : Bytes) (at : ℕ) where
           let place : at + amountIn (drop at s) ≡ end = cc in
           record {
             number = t;
+            held = tt;
             sized = cc;
             small = amount-below (take (amountIn (drop at s)) (drop at s)) q;
             line = rw (← place, ← drop-drop (amountIn (drop at s)) at s) (omega (arith, line-amount (drop at s)));
@@ -139,6 +143,7 @@ module _ (largest : ℕ) (s : Bytes) (at : ℕ) where
           let place : at + digitsIn (drop at s) ≡ end = cc in
           record {
             number = pos n;
+            held = F.number n;
             sized = cc;
             small = number-below (take (digitsIn (drop at s)) (drop at s)) q;
             line = rw (← place, ← drop-drop (digitsIn (drop at s)) at s) (omega (arith, line-digits (drop at s)));
@@ -178,15 +183,16 @@ module _ (b : Bool) (largest : ℕ) (s : Bytes) (at : ℕ) (t : Bool) (q : t ≡
 pub ruleset field-laws = (needs, not-true, not-false, no-field, field-there, field-within)
 
 -- a field that was read after a tab, and what it leaves to be read
-record Stepped (f : Asked) (s : Bytes) (at : ℕ) (size : Size) (end : ℕ) : Type 0 where
-  number : ℤ
-  sized : size ≡ sizeIn f number
-  small : Small number
-  line : line-end s at ≡ line-end s end
-  left : (fs : List Holds) → numbersIn (readAs f ∷ fs) (drop at s) ≡ both (some number) (numbersIn fs (drop end s))
+pub record Stepped (f : Asked) (s : Bytes) (at : ℕ) (size : Size) (end : ℕ) : Type 0 where
+  pub number : ℤ
+  pub held : Held (readAs f) number
+  pub sized : size ≡ sizeIn f number
+  pub small : Small number
+  pub line : line-end s at ≡ line-end s end
+  pub left : (fs : List Holds) → numbersIn (readAs f ∷ fs) (drop at s) ≡ both (some number) (numbersIn fs (drop end s))
 
 module _ (f : Asked) (s : Bytes) (at : ℕ) (r : FieldAt) (q : r ≡ fieldAfter (signedIn f) (largestIn f) s at) where
-  stepped : {size : Size} {end : ℕ} → r ≡ Whole size end → Stepped f s at size end
+  pub stepped : {size : Size} {end : ℕ} → r ≡ Whole size end → Stepped f s at size end
   unfolding fieldAfter
   stepped {size} {end} e = go (begins tab (drop at s)) refl (sym q ∙ e)
     where
@@ -196,13 +202,14 @@ module _ (f : Asked) (s : Bytes) (at : ℕ) (r : FieldAt) (q : r ≡ fieldAfter 
           let field = field-read (largestIn f) s (at + 1) (signedIn f) v in
           record {
             number = field .number;
+            held = field .held;
             sized = field .sized;
             small = field .small;
             line = omega (arith, ap (λ (u : Bytes). length (lineIn u)) (tab-here s at h), line-tab (drop (at + 1) s), field .line);
             left = λ fs. ap (numbersIn (readAs f ∷ fs)) (tab-here s at h) ∙ field .left fs;
           }
 
-  missing : r ≡ NoWhole → (fs : List Holds) → numbersIn (readAs f ∷ fs) (drop at s) ≡ none
+  pub missing : r ≡ NoWhole → (fs : List Holds) → numbersIn (readAs f ∷ fs) (drop at s) ≡ none
   unfolding fieldAfter
   missing e fs = go (begins tab (drop at s)) refl (sym q ∙ e)
     where

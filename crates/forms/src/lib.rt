@@ -107,7 +107,7 @@ fn held(number: Size) -> i64
 }
 
 // A tab here, and then the number of a field with a sign, or without, against the largest that it may have.
-fn field_after(text: &[u8], at: usize, signed: bool, largest: u32) -> FieldAt
+pub fn field_after(text: &[u8], at: usize, signed: bool, largest: u32) -> FieldAt
     ensures { λ r. ⌜ r ≡ fieldAfter signed largest (now (text .entry)) at ⌝ }
 {
     if !fields::is_at(text, at, b'\t') {

@@ -14,10 +14,12 @@ ghost use Rattle.tables.specs.Records.{held};
 fn with_top(header: Header, level: u32) -> Header
     ensures { λ r. ⌜ r ≡ withTop header level ⌝ }
 {
+    let headroom = header.headroom;
     Header {
         factor: header.factor,
         waterline: header.waterline,
         top: level,
+        headroom: headroom,
     }
 }
 

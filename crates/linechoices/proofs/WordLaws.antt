@@ -11,8 +11,11 @@ use Rattle.model.specs.declared.Line.the-variants.{In, Const, Neg, Rot, Add, Mu
 use Rattle.model.specs.declared.Choice.{Choice}
 use Rattle.model.specs.declared.Best.{Best}
 use Rattle.model.specs.declared.Best.the-variants as Bests
-use Rattle.model.specs.Machine.{Step, goes, stops}
+use Rattle.model.specs.Machine.{Step, stops}
 use Rattle.model.specs.Plan.{inputChoice, unlessTooFew, choiceOf, bestMachine}
+use Rattle.model.proofs.Tests.{header-facts}
+use Rattle.choices.specs.Ranges.{HeaderRanges}
+use Rattle.choices.proofs.ChoiceLaws.{ranges}
 use Rattle.conversions.specs.declared.Operand.{Operand}
 use Rattle.conversions.specs.Operands.{bestOf}
 use Rattle.linechoices.specs.declared.LineChoice.{LineChoice}
@@ -46,6 +49,9 @@ module _ (h : Header) (x : Line) (a b : Operand) where
   out-step i e = rw e
 
 module _ (h : Header) (x : Line) (a b : Operand) (K : Known h x a b) where
+  pub header-fits : HeaderRanges h
+  header-fits = ranges h (header-facts h (K .in-range))
+
   -- ---- what it asks of its operands
   not-five : {P : Type 0} → stepOn h x a b ≡ stops 5 → P
   not-five e = absurd (let six = K .only-six 5 e in omega arith)
@@ -138,6 +144,7 @@ module _ (h : Header) (x : Line) (a b : Operand) (K : Known h x a b) where
 
 pub ruleset word-laws = (
   needs,
+  header-fits,
   neg-ciphertext,
   rot-ciphertext,
   out-ciphertext,

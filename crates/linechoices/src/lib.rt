@@ -5,7 +5,9 @@ use model::Header;
 use model::Line;
 ghost use mathlib.Core.Path.{_≡_};
 ghost use mathlib.Core.Bool.{true, _||_};
+ghost use lib.Dec.{T};
 ghost use Rattle.model.specs.declared.Best.the-variants.{Constant};
+ghost use Rattle.model.specs.Scales.{headerInRange};
 ghost use Rattle.model.specs.Plan.{unlessTooFew, choiceOf, bestMachine};
 ghost use Rattle.choices.specs.Ranges.{HeaderRanges, Small};
 ghost use Rattle.conversions.specs.Operands.{bestOf};
@@ -19,6 +21,7 @@ pub enum LineChoice {
 
 // A line whose best reserve is below the headroom has too few levels.
 fn unless_too_few(header: Header, choice: Choice) -> LineChoice
+    requires { ⌜ T (headerInRange header) ⌝ }
     ensures { λ r. ⌜ r ≡ lineChoice (unlessTooFew header choice) ⌝ }
 {
     if choice.reserve < scales::headroom(header) {

@@ -12,11 +12,11 @@ use lib.ListN.{length, getD, length-map, length-append}
 use Rattle.fields.specs.Pieces.{Bytes, lineFeed, split, sameBytes}
 use Rattle.fields.proofs.Each.{none, one}
 use Rattle.rows.specs.Fields.{upToTop}
-use Rattle.rows.specs.Forms.{Said, saying, titled, named, worded}
+use Rattle.rows.specs.Forms.{Said, saying, named, worded}
 use Rattle.rows.specs.Lines.{Lines, lines, linesOf}
 use Rattle.rows.specs.Rows.{read, refused, readLines, readFile}
 use Rattle.rows.proofs.FieldLaws.{Held, number, Fields, no-field, field, Bounded, allSmall, all-short}
-use Rattle.rows.proofs.FormLaws.{LawfulForm, Letters, letters-are, said-fields, titled-back, titled-law, titled-forth, worded-back, worded-law, worded-forth, made-law, made-forth}
+use Rattle.rows.proofs.FormLaws.{LawfulForm, Letters, letters-are, said-fields, worded-back, worded-law, worded-forth, made-law, made-forth}
 use Rattle.rows.proofs.LineLaws.{pieces, split-lines}
 use Rattle.rows.proofs.RowLaws as Rows
 use Rattle.rows.proofs.RowLaws.{Passes, RowsFormed, no-row, row, Follows, LawfulFormat, ReadsBack, Numbers}
@@ -25,19 +25,19 @@ use Rattle.model.specs.declared.Header.{Header}
 use Rattle.model.specs.declared.Line.{Line}
 use Rattle.model.specs.declared.Line.the-variants.{Enc}
 use Rattle.model.specs.declared.Word.{Word}
-use Rattle.model.specs.Scales.{headerFields, headerNumbers, headerInRange}
+use Rattle.model.specs.Scales.{headerInRange}
 use Rattle.model.specs.Words.{ascii, entry, words, hasWord}
 use Rattle.model.specs.Numbering.{sameWord}
 use Rattle.model.specs.Files.{File, said, wordOf, rowOf, isWord, operands, inRange, isUsable, kindAt, everyUsable, lineTests, linesFormed, wellFormed}
 use Rattle.model.proofs.Tests.{and-first, and-both, HeaderFacts, header-facts}
 use Rattle.model.proofs.EveryWord.{every-word, same-word, line-said}
 use Rattle.model.proofs.Formed.{usable-below}
-use Rattle.text.specs.Files.{headerOf, lineForm, keptCount, beginsKept, fewEnough, eraseContext, format, fileText}
+use Rattle.text.specs.Files.{lineForm, keptCount, beginsKept, fewEnough, eraseContext, format, fileText}
 use Rattle.text.specs.Files as Texts
 use Rattle.text.proofs.Statements.Refusals as Reasons
 use Rattle.text.proofs.Statements.Refusals.{IsNumber, IsRefusal}
 use Rattle.text.proofs.WordLaws.{word-letters, word-of, said-held, said-line}
-use Rattle.text.proofs.FormLaws.{header-held, header-bounded, header-made, line-bounded, begins-kept, isKeptWord}
+use Rattle.text.proofs.FormLaws.{header-law, header-forth, line-bounded, begins-kept, isKeptWord}
 use Rattle.text.proofs.FileLaws.{line-tests, has-room, lawful, rows-are, file-written-read}
 use Rattle.listings.specs.Listings.{Listed, line, downscale, Listing, ListedWord, word, ds, wordBytes, wordFields, vocabulary, saidListed, listedOf, listedForm, risingForm, turned}
 use Rattle.listings.specs.Listings.{asSchedules, asLines, listingFormat, readListing, listingText}
@@ -49,14 +49,10 @@ rising-letters : Letters (ascii "rising")
 rising-letters = letters-are (ascii "rising") tt
 
 pub rising-law : LawfulForm risingForm
-rising-law =
-    made-law headerOf headerNumbers (titled (ascii "rising") headerFields) (λ p ns e. header-made (titled-back (ascii "rising") headerFields p e .held))
-    (titled-law (ascii "rising") headerFields rising-letters)
+rising-law = header-law (ascii "rising") rising-letters
 
 rising-forth : (h : Header) → T (headerInRange h) → risingForm .reads (risingForm .text h) ≡ some h
-rising-forth h r =
-    made-forth headerOf headerNumbers (titled (ascii "rising") headerFields) h refl
-    (titled-forth (ascii "rising") headerFields rising-letters (header-held h) (all-short 0 0 tt (header-bounded h r)))
+rising-forth h r = header-forth (ascii "rising") rising-letters h r
 
 -- ---- the words
 pub listed-letters : (w : ListedWord) → Letters (wordBytes w)

@@ -14,8 +14,8 @@ use Rattle.model.specs.Scales.{headroom}
 use Rattle.listings.specs.Listings.{Listed, line, downscale}
 use Rattle.listings.specs.Rules.{KeepsRisingRules}
 
--- "9 scale above F·level", where L less this level is left, below zero if more levels are used up than there are: "A `rs` or `ms` past zero
--- counts as a negative result."
+-- "9 scale above F·level", with H, where L less this level is left, below zero if more levels are used up than there are: "A `rs` or `ms`
+-- past zero counts as a negative result."
 abbrev pub fitsLeft : Header → ℤ → ℕ → ℕ × Bool
 fitsLeft h s l = (9, leZ (s +ℤ pos (headroom h)) (pos (h .factor) *ℤ (pos (h .top) -ℤ pos l)))
 

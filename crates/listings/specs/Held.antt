@@ -57,7 +57,7 @@ abbrev pub countedTable : Table → Table
 countedTable t = record { header = t .header; lines = map countedLine (t .lines); count = t .count }
 
 -- ---- the rules
--- 14, then 9; then W at one level less
+-- 14, then 9 with H; then W at one level less
 abbrev pub downscaled : Header → ℕ → ℕ → Step Found ℕ
 downscaled h s l =
     let raised = h .waterline + h .factor in

@@ -11,7 +11,7 @@ use Rattle.model.specs.Scales.{modulus, headroom}
 use Rattle.model.specs.Rules.{hasScale}
 use Rattle.listings.specs.Listings.{Listed, line, downscale, asSchedules}
 
--- "W ≤ scale ≤ F·level", of the L − level levels that are left
+-- "W ≤ scale ≤ F·level", with "scale + H ≤ F·level", of the L − level levels that are left
 pub record RisingBounds (h : Header) (scale level : ℕ) : Type 0 where
   pub low : h .waterline ≤ scale
   pub high : scale + headroom h + modulus h level ≤ modulus h (h .top)

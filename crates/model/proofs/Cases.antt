@@ -6,7 +6,7 @@ use mathlib.Core.List.{List, [], _∷_, _++_, zipWith}
 use lib.Dec.{T}
 use lib.ListN.{length, getD}
 use Rattle.model.specs.Scales.{headroom}
-use Rattle.model.specs.Worked.{Case, inputFormed, allFormed, endsOf, machineCases, planCases, constantCases, cases, noCase}
+use Rattle.model.specs.Worked.{Case, inputFormed, allFormed, endsOf, machineCases, planCases, constantCases, headroomCases, headroomPlans, cases, noCase}
 use Rattle.model.proofs.Statements.WorkedCases as WorkedCases
 use Rattle.model.proofs.Tests.{and-first, and-second}
 
@@ -25,6 +25,14 @@ plans-tested = (refl, (refl, (refl, (refl, (refl, (refl, (refl, (refl, (refl, (r
 
 constants-tested : EndSo constantCases
 constants-tested = (refl, (refl, (refl, tt)))
+
+headroom-tested : EndSo headroomCases
+unfolding headroom zipWith
+headroom-tested = (refl, (refl, (refl, (refl, (refl, (refl, (refl, (refl, (refl, (refl, (refl, (refl, (refl, (refl, (refl, (refl, tt))))))))))))))))
+
+headroom-plans-tested : EndSo headroomPlans
+unfolding headroom
+headroom-plans-tested = (refl, (refl, (refl, (refl, (refl, (refl, (refl, (refl, (refl, (refl, (refl, tt)))))))))))
 
 both-tested : (cs ds : List Case) → EndSo cs → EndSo ds → EndSo (cs ++ ds)
 both-tested [] ds t u = u
@@ -47,5 +55,8 @@ all-end-so (c ∷ cs) t (suc k) u = all-end-so cs (t .1) k (le-of-suc-le-suc u)
 -- every case of the table
 pub worked : WorkedCases.Statement
 worked k u =
-    let tested = both-tested machineCases (planCases ++ constantCases) machines-tested (both-tested planCases constantCases plans-tested constants-tested) in
+    let headrooms = both-tested headroomCases headroomPlans headroom-tested headroom-plans-tested in
+    let last = both-tested constantCases (headroomCases ++ headroomPlans) constants-tested headrooms in
+    let plans = both-tested planCases (constantCases ++ headroomCases ++ headroomPlans) plans-tested last in
+    let tested = both-tested machineCases (planCases ++ constantCases ++ headroomCases ++ headroomPlans) machines-tested plans in
     record { formed = all-formed cases formed k u; ends-so = all-end-so cases tested k u }

@@ -4,13 +4,15 @@ use Prim.Native.Nat.{ℕ, zero, suc, _+_}
 use native.Mathlib.Omega.{arith}
 use mathlib.Core.Path.{_≡_, refl, sym, ap, ap₂, _∙_, subst}
 use mathlib.Core.Logic.{_⊎_, inl, inr}
-use mathlib.Core.Bool.{not, _&&_}
+use mathlib.Core.Bool.{cond, not, _&&_}
 use mathlib.Core.List.{List, [], _∷_, nil≢cons, head-eq-of-cons-eq, tail-eq-of-cons-eq}
-use lib.Dec.{T, T-not, eqb, eqb→eq, eqb-refl}
-use lib.ListN.{take}
+use lib.Dec.{T, T-not, leb, eqb, eqb→eq, eqb-refl}
+use lib.ListN.{length, take}
 use lib.IntN.{ℤ, pos, negsuc}
 use Rattle.ints.specs.Parts.{positive, negative}
 use Rattle.model.specs.declared.Header.{Header}
+use Rattle.model.specs.declared.Headroom.{Headroom}
+use Rattle.model.specs.declared.Headroom.the-variants.{None, Given}
 use Rattle.model.specs.declared.Line.{Line}
 use Rattle.model.specs.declared.Grammar.the-variants.{Circuit, Schedule}
 use Rattle.model.specs.declared.Answer.{Answer}
@@ -77,11 +79,15 @@ line-same x =
 
 -- ---- headers
 header-from : List ℤ → Header
-header-from ns = record { factor = nth ns 0; waterline = nth ns 1; top = nth ns 2 }
+header-from ns = record { factor = nth ns 0; waterline = nth ns 1; top = nth ns 2; headroom = cond (leb (length ns) 3) None (Given (nth ns 3)) }
 
 header-back : (h : Header) → header-from (headerNumbers h) ≡ h
 unfolding header-from
-header-back h = refl
+header-back h = go (h .headroom) refl
+  where
+    go : (given : Headroom) → h .headroom ≡ given → header-from (headerNumbers h) ≡ h
+    go None e = rw e
+    go (Given bits) e = rw e
 
 pub same-header : (h k : Header) → T (sameHeader h k) → h ≡ k
 same-header h k t = sym (header-back h) ∙ ap header-from (same-numbers (headerNumbers h) (headerNumbers k) t) ∙ header-back k

@@ -15,7 +15,7 @@ use Rattle.ints.proofs.Linear.{le-parts, parts-, positive-sub}
 use Rattle.model.specs.declared.Header.{Header}
 use Rattle.model.specs.declared.Line.{Line}
 use Rattle.model.specs.declared.Line.the-variants.{In, Const, Neg, Rot, Add, Mul, Out, Enc, Rs, Ms, Us, Free}
-use Rattle.model.specs.Scales.{headroom}
+use Rattle.model.specs.Scales.{modulus, headroom}
 use Rattle.model.specs.Files.{kindOf, isConstant}
 use Rattle.model.specs.Machine.{Step, goes, stops, finished, andThen, heldBy, step, run}
 use Rattle.model.specs.Rules.{Bounds}
@@ -26,6 +26,9 @@ use Rattle.model.specs.declared.Found.{Found}
 use Rattle.model.specs.declared.Found.the-variants as Founds
 use Rattle.model.specs.Answers.{bounded, onBare, onCiphertext, onPair, sum, product, checkMachine}
 use Rattle.model.specs.Demands.{ExactLine, Exact}
+use Rattle.model.proofs.Tests.{HeaderFacts}
+use Rattle.model.proofs.HeadroomLaws.{given-facts}
+use Rattle.model.proofs.Sizes.{times-below-half}
 use Rattle.model.proofs.Lists.{found-at, All2, length2, beside, All3, nil3, length3, between}
 use Rattle.model.proofs.Kept.{Follows, Kept, run-kept, Finished, finish}
 use Rattle.model.proofs.Bounded.{Low, High, bounded-cases, sum-cases, product-cases, tests-bound}
@@ -271,7 +274,7 @@ module _ (h : Header) where
   bare-lines s e = each-line (checkMachine h) (λ x y. isBare y ≡ isConstant (kindOf x)) bare-by-word s e
 
 -- ---- the theorem
-module _ (H : Handed) (h : Header) where
+module _ (H : Handed) (h : Header) (facts : HeaderFacts h) where
   times-bounds : {s l n m : ℕ} {v w : Vector} → Times H h s l (scaled n m v) w → Bounds h n m
   times-bounds {s} {l} {n} {m} a =
       let scales : s ≡ n = cc in
@@ -288,11 +291,23 @@ module _ (H : Handed) (h : Header) where
 
   module _ (schedule : List Line) (held : List Holding) (numbers : List Vector) (i j : ℕ) (kept : getElem? (keptLines schedule) j ≡ some i)
       {y : Holding} {w : Vector} (there : getElem? held i ≡ some y) (plain : getElem? numbers j ≡ some w) where
-    times-line : (s l : ℕ) → Times H h s l y w → ExactLine (H .slots) schedule held numbers j
+    times-line : (s l : ℕ) → Times H h s l y w → ExactLine (H .slots) h schedule held numbers j
     times-line s l a =
-        record { line = i; scale = s; level = l; vector = w; kept = kept; long = a .long; plain = plain; exact = there ∙ ap some (a .held) }
+        record {
+          line = i;
+          scale = s;
+          level = l;
+          vector = w;
+          kept = kept;
+          long = a .long;
+          plain = plain;
+          exact = there ∙ ap some (a .held);
+          below-half = λ bits given small.
+              let f = given-facts h facts bits given in
+              times-below-half bits (f .some) s (modulus h l) (omega (arith, a .bounds .high, f .is)) w small;
+        }
 
-    agree-line : (x : Found) → T (not (isBare x)) → Agree H h x y w → ExactLine (H .slots) schedule held numbers j
+    agree-line : (x : Found) → T (not (isBare x)) → Agree H h x y w → ExactLine (H .slots) h schedule held numbers j
     agree-line Founds.Bare t a = absurd t
     agree-line (Founds.Encoded s l) t a = times-line s l a
     agree-line (Founds.Ciphertext s l) t a = times-line s l a
@@ -303,7 +318,7 @@ module _ (H : Handed) (h : Header) where
     held-long : length held ≡ length s
     held-long = sym (length3 agrees .0) ∙ sym (length2 bare)
 
-    exact-line : (j : ℕ) → j < length (erase s) → T (not (isConstant (kindOf (getD (erase s) j Free)))) → ExactLine (H .slots) s held numbers j
+    exact-line : (j : ℕ) → j < length (erase s) → T (not (isConstant (kindOf (getD (erase s) j Free)))) → ExactLine (H .slots) h s held numbers j
     exact-line j below other =
         let i : ℕ = getD (keptLines s) j 0 in
         let line = kept-line s j below in
@@ -316,16 +331,16 @@ module _ (H : Handed) (h : Header) where
         agree-line s held numbers i j (line .there) there plain (at .left) (rw word at other) (at .related)
 
 -- a schedule that passes the check is exact
-pub exact : (H : Handed) (h : Header) (s : List Line) {found : List Found} → run (checkMachine h) s ≡ finished found → Exact H h (erase s) s
-exact H h s e =
+pub exact : (H : Handed) (h : Header) → HeaderFacts h → (s : List Line) {found : List Found} → run (checkMachine h) s ≡ finished found → Exact H h (erase s) s
+exact H h facts s e =
     let runs = agreeing H h s e in
     let circuit = erased (plainMachine H) s (runs .third-is) in
     record {
       held = runs .second;
       own = circuit .held;
       runs = runs .second-is;
-      all-lines = held-long H h s (circuit .held) (runs .related) (bare-lines h s e) (circuit .from-circuit);
+      all-lines = held-long H h facts s (circuit .held) (runs .related) (bare-lines h s e) (circuit .from-circuit);
       plain-runs = circuit .runs;
-      in-bounds = λ i n m v there. let at = between (runs .related) i there in agree-bounds H h (at .left) n m v (at .right) (at .related);
-      lines = exact-line H h s (circuit .held) (runs .related) (bare-lines h s e) (circuit .from-circuit);
+      in-bounds = λ i n m v there. let at = between (runs .related) i there in agree-bounds H h facts (at .left) n m v (at .right) (at .related);
+      lines = exact-line H h facts s (circuit .held) (runs .related) (bare-lines h s e) (circuit .from-circuit);
     }

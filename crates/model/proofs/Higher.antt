@@ -18,7 +18,7 @@ use Rattle.model.proofs.Statements.Products.{productAt}
 use Rattle.model.specs.Plan.{smaller, atWaterline, inputChoice, unchangedChoice, timesConstantChoice, constantTimesChoice, productChoice, unlessTooFew, onBest, onReserves, bestMachine}
 use Rattle.model.proofs.Lists.{nil3}
 use Rattle.model.proofs.Kept.{Follows, Kept, run-kept, Finished, finish, idle}
-use Rattle.model.proofs.Headroom.{headroom-top}
+use Rattle.model.proofs.HeadroomLaws.{headroom-top}
 use Rattle.model.proofs.Products.{smaller-mono, Optimal, optimal}
 use Rattle.model.proofs.Chosen.{unlessTooFew-elim, unlessTooFew-goes}
 

@@ -5,7 +5,7 @@ pub mod Runs
 pub mod Kept
 pub mod Erasing
 pub mod Appended
-pub mod Headroom
+pub mod HeadroomLaws
 pub mod Levels
 pub mod Products
 pub mod Bounded
@@ -19,6 +19,7 @@ pub mod Reason
 pub mod Broken
 pub mod Compared
 pub mod Vectors
+pub mod Sizes
 pub mod KeptLines
 pub mod Erasure
 pub mod EachLine
@@ -29,6 +30,7 @@ pub mod Supplies
 pub mod Meets
 pub mod Lines
 pub mod Planned
+pub mod SamePlan
 pub mod Least
 pub mod Statements
 pub mod Theorems

@@ -10,6 +10,7 @@ pub mod Exactness
 pub mod ScaleMachine
 pub mod ReserveBound
 pub mod ThePlan
+pub mod SamePlan
 pub mod BestReserve
 pub mod TooFewLevels
 pub mod HigherLevels

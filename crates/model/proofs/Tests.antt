@@ -4,14 +4,17 @@ use native.Mathlib.Decide.{decLt}
 use native.Mathlib.Omega.{arith}
 use mathlib.Core.Path.{_≡_, refl, subst}
 use mathlib.Core.Logic.{_⊎_, inl, inr}
-use mathlib.Core.Bool.{_&&_}
+use mathlib.Core.Bool.{Bool, _&&_}
+use mathlib.Core.List.{[], _∷_}
 use lib.Dec.{T, leb, eqb, leb→le, le→leb, eqb-refl}
 use Rattle.model.specs.declared.Header.{Header}
+use Rattle.model.specs.declared.Headroom.{Headroom}
+use Rattle.model.specs.declared.Headroom.the-variants.{None, Given}
 use Rattle.model.specs.declared.Kind.{Kind}
 use Rattle.model.specs.declared.Kind.the-variants.{Ciphertext, Constant, Encoded, Nothing}
-use Rattle.rows.specs.Fields.{within}
+use Rattle.rows.specs.Fields.{ranged, within, allInRange}
 pub use Rattle.rows.proofs.Tests.{and-first, and-second, and-both, or-cases, or-first, or-second, by-test, cond-cases, cond-true, cond-false}
-use Rattle.model.specs.Scales.{headerInRange}
+use Rattle.model.specs.Scales.{headroomNumbers, headerInRange}
 use Rattle.model.specs.Files.{isCiphertext, isConstant, isEncoded, isUsable}
 
 -- ---- equal numbers
@@ -36,24 +39,54 @@ within-facts low high n t =
 pub within-passes : (low high n : ℕ) → Within low high n → T (within low high n)
 within-passes low high n w = and-both (leb low n) (leb n high) (le→leb low n (w .least)) (le→leb n high (w .most))
 
+-- the headroom's range, where it is given
+abbrev headroomPasses : Headroom → Bool
+headroomPasses given = allInRange 0 (ranged 1 60 ∷ []) (headroomNumbers given)
+
+abbrev pub HeadroomFacts : Headroom → Type 0
+HeadroomFacts None = Unit {0}
+HeadroomFacts (Given bits) = Within 1 60 bits
+
+headroom-facts : (given : Headroom) → T (headroomPasses given) → HeadroomFacts given
+headroom-facts None t = tt
+headroom-facts (Given bits) t = within-facts 1 60 bits t
+
+headroom-passes : (given : Headroom) → HeadroomFacts given → T (headroomPasses given)
+headroom-passes None f = tt
+headroom-passes (Given bits) f = within-passes 1 60 bits f
+
 pub record HeaderFacts (h : Header) : Type 0 where
   pub factor : Within 1 60 (h .factor)
   pub waterline : Within 1 60 (h .waterline)
   pub top : Within 1 60 (h .top)
+  pub headroom : HeadroomFacts (h .headroom)
 
-pub header-facts : (h : Header) → T (headerInRange h) → HeaderFacts h
-header-facts h t =
-    let two = and-second (within 1 60 (h .factor)) (within 1 60 (h .waterline) && within 1 60 (h .top)) t in
-    record {
-      factor = within-facts 1 60 (h .factor) (and-first (within 1 60 (h .factor)) (within 1 60 (h .waterline) && within 1 60 (h .top)) t);
-      waterline = within-facts 1 60 (h .waterline) (and-first (within 1 60 (h .waterline)) (within 1 60 (h .top)) two);
-      top = within-facts 1 60 (h .top) (and-second (within 1 60 (h .waterline)) (within 1 60 (h .top)) two);
-    }
+module _ (h : Header) where
+  abbrev fromHeadroom : Bool
+  fromHeadroom = headroomPasses (h .headroom)
 
-pub header-passes : (h : Header) → HeaderFacts h → T (headerInRange h)
-header-passes h f =
-    and-both (within 1 60 (h .factor)) (within 1 60 (h .waterline) && within 1 60 (h .top)) (within-passes 1 60 (h .factor) (f .factor))
-    (and-both (within 1 60 (h .waterline)) (within 1 60 (h .top)) (within-passes 1 60 (h .waterline) (f .waterline)) (within-passes 1 60 (h .top) (f .top)))
+  abbrev fromTop : Bool
+  fromTop = within 1 60 (h .top) && fromHeadroom
+
+  abbrev fromWaterline : Bool
+  fromWaterline = within 1 60 (h .waterline) && fromTop
+
+  pub header-facts : T (headerInRange h) → HeaderFacts h
+  header-facts t =
+      let waterline-on = and-second (within 1 60 (h .factor)) fromWaterline t in
+      let top-on = and-second (within 1 60 (h .waterline)) fromTop waterline-on in
+      record {
+        factor = within-facts 1 60 (h .factor) (and-first (within 1 60 (h .factor)) fromWaterline t);
+        waterline = within-facts 1 60 (h .waterline) (and-first (within 1 60 (h .waterline)) fromTop waterline-on);
+        top = within-facts 1 60 (h .top) (and-first (within 1 60 (h .top)) fromHeadroom top-on);
+        headroom = headroom-facts (h .headroom) (and-second (within 1 60 (h .top)) fromHeadroom top-on);
+      }
+
+  pub header-passes : HeaderFacts h → T (headerInRange h)
+  header-passes f =
+      and-both (within 1 60 (h .factor)) fromWaterline (within-passes 1 60 (h .factor) (f .factor))
+      (and-both (within 1 60 (h .waterline)) fromTop (within-passes 1 60 (h .waterline) (f .waterline))
+      (and-both (within 1 60 (h .top)) fromHeadroom (within-passes 1 60 (h .top) (f .top)) (headroom-passes (h .headroom) (f .headroom))))
 
 -- ---- kinds
 pub is-ciphertext : (k : Kind) → T (isCiphertext k) → k ≡ Ciphertext

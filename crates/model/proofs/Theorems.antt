@@ -50,6 +50,7 @@ use Rattle.model.proofs.Statements.Exactness as Exactness
 use Rattle.model.proofs.Statements.ScaleMachine as ScaleMachine
 use Rattle.model.proofs.Statements.ReserveBound as ReserveBound
 use Rattle.model.proofs.Statements.ThePlan as ThePlan
+use Rattle.model.proofs.Statements.SamePlan as SamePlanStatement
 use Rattle.model.proofs.Statements.BestReserve as BestReserve
 use Rattle.model.proofs.Statements.TooFewLevels as TooFewLevels
 use Rattle.model.proofs.Statements.HigherLevels as HigherLevels
@@ -57,7 +58,7 @@ use Rattle.model.proofs.Statements.LeastLevel as LeastLevel
 use Rattle.model.proofs.Tests.{and-first, and-second, and-both, is-ciphertext, HeaderFacts, header-facts, header-passes}
 use Rattle.model.proofs.Lists.{found-at, found-is}
 use Rattle.model.proofs.Runs.{stopped-finished, finished-is, first-stop}
-use Rattle.model.proofs.Headroom.{headroom-is}
+use Rattle.model.proofs.HeadroomLaws.{none-is, given-is}
 use Rattle.model.proofs.Levels.{level-fits, level-least}
 use Rattle.model.proofs.Products.{optimal}
 use Rattle.model.proofs.Reserves.{Bound, AtBest, AllBest, reserve-bound}
@@ -75,6 +76,7 @@ use Rattle.model.proofs.Drafts.{Stands}
 use Rattle.model.proofs.Supplies.{Valid, scaleAt, foundFor}
 use Rattle.model.proofs.Lines.{Progress}
 use Rattle.model.proofs.Planned.{Whole, planned}
+use Rattle.model.proofs.SamePlan as SamePlan
 use Rattle.model.proofs.Least.{StopsAt, First, Never, Says, least-says}
 
 -- ---- the smaller statements
@@ -125,7 +127,10 @@ first-broken h s t n p e = refused-run h s n p e (λ i q r.
 
 pub bounds-are : BoundsStatement.Statement
 bounds-are h s l =
-    (λ b. (b .low, omega (arith, b .high, headroom-is h)), λ b. record { low = b .0; high = omega (arith, b .1, headroom-is h) })
+    record {
+      none = λ e. (λ b. (b .low, omega (arith, b .high, none-is h e)), λ b. record { low = b .0; high = omega (arith, b .1, none-is h e) });
+      given = λ bits e. (λ b. (b .low, omega (arith, b .high, given-is h bits e)), λ b. record { low = b .0; high = omega (arith, b .1, given-is h bits e) });
+    }
 
 pub checks : Check.Statement
 checks = judges
@@ -138,7 +143,7 @@ exactness circuit schedule p H =
     let k = schedule .header in
     let s = schedule .lines in
     subst (λ (c : List Line). Rattle.model.specs.Demands.Exact H k c s) (λ i. p .erases i .lines)
-    (exact H k s (keeps-checked k s (p .schedule-formed) (p .keeps) .1))
+    (exact H k (header-facts k (well-header Schedule k s (p .schedule-formed))) s (keeps-checked k s (p .schedule-formed) (p .keeps) .1))
 
 pub scale-machine : ScaleMachine.Statement
 scale-machine = is-the-rules
@@ -310,6 +315,10 @@ the-plan circuit t schedule e = go (run (bestMachine (circuit .header)) (circuit
         same p = cc
     go (stopped i n) q = refused-written n (placeOf i) schedule (sym (plan-is circuit (stopped i n) q) ∙ e)
 
+-- ---- the plan with headroom and without
+pub same-plan : SamePlanStatement.Statement
+same-plan = SamePlan.same-plan
+
 -- ---- the best reserve
 pub best-reserve : BestReserve.Statement
 best-reserve circuit t schedule e K other j c =
@@ -443,7 +452,7 @@ pub formed-at-top : (h : Header) (c : List Line) → T (wellFormed Circuit h c) 
 formed-at-top h c t l a b =
     let H = header-facts h (well-header Circuit h c t) in
     and-both (headerInRange (withTop h l)) (linesFormed Circuit (withTop h l) [] c)
-    (header-passes (withTop h l) (record { factor = H .factor; waterline = H .waterline; top = record { least = a; most = b } }))
+    (header-passes (withTop h l) (record { factor = H .factor; waterline = H .waterline; top = record { least = a; most = b }; headroom = H .headroom }))
     (lines-at-top h l c [] (well-lines Circuit h c t))
 
 at-top : (h : Header) (c : List Line) → ℕ → File

@@ -34,7 +34,7 @@ abbrev pub unless : Tests → Step Found ℕ → Step Found ℕ
 unless [] more = more
 unless ((n, passes) ∷ tests) more = cond passes (unless tests more) (stops n)
 
--- "10 scale below W. 9 scale above F·level." "A `rs` or `ms` past zero counts as a negative result."
+-- "10 scale below W. 9 scale above F·level.", with H. "A `rs` or `ms` past zero counts as a negative result."
 abbrev pub boundTests : Header → ℤ → ℤ → Tests
 boundTests h s l = (10, leZ (pos (h .waterline)) s) ∷ (9, leZ (s +ℤ pos (headroom h)) (pos (h .factor) *ℤ l)) ∷ []
 

@@ -15,7 +15,7 @@ use Rattle.rows.specs.Rows.{placeOf, Tests, bad, judged}
 use Rattle.model.specs.Rules.{KeepsRules}
 
 -- "10 scale below W. 9 scale above F·level.", of the scale and the level that the line's rule gives, with their signs: "A `rs` or `ms` past
--- zero counts as a negative result."
+-- zero counts as a negative result."; document 02, Job 3: "(9, 6 and 2 take H in.)"
 abbrev pub scaleTests : Header → ℤ → ℤ → Tests
 scaleTests h s l = (10, leZ (pos (h .waterline)) s) ∷ (9, leZ (s +ℤ pos (headroom h)) (pos (h .factor) *ℤ l)) ∷ []
 

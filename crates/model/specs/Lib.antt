@@ -1,4 +1,4 @@
--- Document 01 as definitions, in its order: a file for each section that defines something, with the section on the files in two (Words,
+-- Document 01, with Jobs 1 and 3 of document 02, as definitions, in its order: a file for each section that defines something, with the section on the files in two (Words,
 -- Files) and the section on the rules in three (Machine, Rules, Machines), and the demands' own terms in Demands.
 pub mod Scales
 pub mod Words

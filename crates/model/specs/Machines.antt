@@ -81,7 +81,8 @@ pub data Holding : Type 0 where
   bare : Vector → Holding
   scaled : ℕ → ℕ → Vector → Holding
 
--- "It stops … at a scale above F·level or below W." A scale or a level that `rs` or `ms` takes below zero is a negative number here.
+-- "It stops … at a scale above F·level or below W.", with H as in the rule. A scale or a level that `rs` or `ms` takes below zero is a
+-- negative number here.
 abbrev pub ifBounded : Header → ℤ → ℤ → Vector → Step Holding Reason
 ifBounded h s l v =
     cond (ltZ s (pos (h .waterline))) (stops belowWaterline)

@@ -77,7 +77,8 @@ productChoice h r r′ =
     let m′ = lowestLevel h r′ in
     cond (eqb m m′) (greaterElseLower (levelBelowChoice h m) (sameLevelChoice h r r′ m)) (unequalChoice h r r′ (min m m′))
 
--- "The best reserve may come out below zero; then the circuit is refused at that line."
+-- "The best reserve may come out below zero; then the circuit is refused at that line."; document 02, Job 3: "a best reserve below H is too
+-- few levels"
 abbrev pub unlessTooFew : Header → Choice → Step Best ℕ
 unlessTooFew h p = cond (ltZ (p .reserve) (pos (headroom h))) (stops 6) (goes (Bests.Ciphertext p))
 
@@ -92,7 +93,7 @@ onReserves h both left right Bests.Constant (Bests.Ciphertext q) = unlessTooFew 
 onReserves h both left right (Bests.Ciphertext p) Bests.Constant = unlessTooFew h (left (p .reserve))
 onReserves h both left right (Bests.Ciphertext p) (Bests.Ciphertext q) = unlessTooFew h (both (p .reserve) (q .reserve))
 
--- "Work through the circuit in order." The best reserve of each line, or 6 at the first whose best reserve is below zero. The stops
+-- "Work through the circuit in order." The best reserve of each line, or 6 at the first whose best reserve is too low. The stops
 -- with 1, 4 and 5 are for lines that no well-formed circuit has.
 abbrev pub bestMachine : Header → Machine Best ℕ
 bestMachine h =

@@ -37,7 +37,7 @@ Rule h scale level i (Ms a c) = (scale i ≡ scale a) × (level i + c ≡ level 
 Rule h scale level i (Us a b) = (scale i ≡ scale a + b) × (level i ≡ level a)
 Rule h scale level i Free = Unit {0}
 
--- "W ≤ scale ≤ F·level"
+-- "W ≤ scale ≤ F·level"; document 02, Job 3: "Each scale must satisfy scale + H ≤ F·level"
 pub record Bounds (h : Header) (scale level : ℕ) : Type 0 where
   pub low : h .waterline ≤ scale
   pub high : scale + headroom h ≤ modulus h level

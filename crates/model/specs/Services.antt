@@ -60,7 +60,7 @@ pub data Planned : Type 0 where
   scheduled : File → Planned
   unplanned : ℕ → ℕ → Planned
 
--- 6 at the first line with best reserve below zero, and otherwise the plan, under the circuit's header numbers.
+-- 6 at the first line whose best reserve is too low, and otherwise the plan, under the circuit's header numbers.
 abbrev pub plan : File → Planned
 plan circuit =
     elim (run (bestMachine (circuit .header)) (circuit .lines)) [

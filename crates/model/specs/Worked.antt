@@ -1,13 +1,18 @@
 -- Small files, as cases of one table: the two machines, to the end and each way in which the scale machine can stop on a well-formed
--- schedule; plans that pin the clauses of "The plan" one by one; and constant numbers on both sides of their limit. Document 01's own cases
--- are rows of the services' table, on whole files.
+-- schedule; plans that pin the clauses of "The plan" one by one; constant numbers on both sides of their limit; and the headroom. Document
+-- 01's own cases are rows of the services' table, on whole files.
 use Prim.Native.Nat.{ℕ, _+_}
 use mathlib.Core.Path.{refl}
-use mathlib.Core.Bool.{Bool, true, _&&_}
+use mathlib.Core.Bool.{Bool, true, false, _&&_}
 use mathlib.Core.List.{List, [], _∷_, _++_}
 use lib.Dec.{lit≤}
+use lib.ListN.{getD}
 use lib.IntN.{ℤ, pos, negsuc, _-ℤ_}
 use Rattle.rows.specs.Rows.{Judgement, good, bad, judged}
+use Rattle.model.specs.declared.Answer.{Answer}
+use Rattle.model.specs.declared.Answer.the-variants.{Done, Level, Refused}
+use Rattle.model.specs.declared.Headroom.{Headroom}
+use Rattle.model.specs.declared.Headroom.the-variants.{None, Given}
 use Rattle.model.specs.declared.Line.{Line}
 use Rattle.model.specs.declared.Line.the-variants.{In, Const, Neg, Rot, Add, Mul, Out, Enc, Rs, Ms, Us}
 use Rattle.model.specs.declared.Grammar.{Grammar}
@@ -17,19 +22,25 @@ use Rattle.model.specs.Machine.{Run, finished, stopped, run}
 use Rattle.model.specs.Machines.{Vector, Handed, Holding, scaled, plainMachine, scaleMachine, timesTwoTo}
 use Rattle.model.specs.Machines.{Reason, levelsDiffer, scalesDiffer, remainder, belowWaterline, aboveModulus}
 use Rattle.model.specs.Services.{Planned, scheduled, unplanned, plan}
+use Rattle.model.specs.Answers.{check, leastLevel}
+use Rattle.model.specs.Demands.{areSmall, belowHalf}
 
--- Run the scale machine on the schedule; run the plain machine on the circuit; plan the circuit; judge one line more of the circuit.
+-- Run the scale machine on the schedule; run the plain machine on the circuit; plan the circuit; judge one line more of the circuit; give
+-- the circuit's least top level; check a schedule against the circuit.
 pub data Asked : Type 0 where
   runs : Asked
   runsPlain : Asked
   plans : Asked
   judges : Line → Asked
+  seeks : Asked
+  checks : File → Asked
 
 pub data Ends : Type 0 where
   scaleRun : Run Holding Reason → Ends
   plainRun : Run Vector Reason → Ends
   planning : Planned → Ends
   judging : Judgement Line → Ends
+  answering : Answer → Ends
 
 pub record Case : Type 0 where
   pub input : File
@@ -42,6 +53,8 @@ grammarOf runs = Schedule
 grammarOf runsPlain = Circuit
 grammarOf plans = Circuit
 grammarOf (judges x) = Circuit
+grammarOf seeks = Circuit
+grammarOf (checks schedule) = Circuit
 
 -- What the machines are handed: three slots, input number k holding k + 1, k + 2 and k − 3, constant number k holding k, −1 and 2.
 abbrev pub handed : Handed
@@ -60,6 +73,8 @@ endsOf runs file = scaleRun (run (scaleMachine handed (file .header)) (file .lin
 endsOf runsPlain file = plainRun (run (plainMachine handed) (file .lines))
 endsOf plans file = planning (plan file)
 endsOf (judges x) file = judging (judged (lineTests Circuit (file .header) (file .lines) x) x)
+endsOf seeks file = answering (leastLevel file)
+endsOf (checks schedule) file = answering (check file schedule)
 
 abbrev pub inputFormed : Case → Bool
 inputFormed c = wellFormed (grammarOf (c .asked)) (c .input .header) (c .input .lines)
@@ -68,9 +83,12 @@ abbrev pub allFormed : List Case → Bool
 allFormed [] = true
 allFormed (c ∷ cs) = inputFormed c && allFormed cs
 
--- F, W and L, and the lines
+-- F, W, L and H, and the lines
+abbrev pub underHeader : ℕ → ℕ → ℕ → Headroom → List Line → File
+underHeader f w l headroom lines = record { header = record { factor = f; waterline = w; top = l; headroom = headroom }; lines = lines }
+
 abbrev pub under : ℕ → ℕ → ℕ → List Line → File
-under f w l lines = record { header = record { factor = f; waterline = w; top = l }; lines = lines }
+under f w l lines = underHeader f w l None lines
 
 -- F = 60, W = 20
 abbrev pub at : ℕ → List Line → File
@@ -179,5 +197,95 @@ constantCases =
     ∷ case (at 2 []) (judges (Const 4294967296)) (judging (bad 11))
     ∷ []
 
+-- ---- Document 02, Job 3
+-- F = 60, W = 20, H given
+abbrev pub leaving : ℕ → ℕ → List Line → File
+leaving l bits lines = underHeader 60 20 l (Given bits) lines
+
+-- a circuit's plan with H has the lines of the plan without
+abbrev pub samePlan : ℕ → ℕ → List Line → List Line → Case
+samePlan l bits circuit schedule = case (leaving l bits circuit) plans (planning (scheduled (leaving l bits schedule)))
+
+abbrev pub headroomCases : List Case
+headroomCases =
+    -- "Each scale must satisfy scale + H ≤ F·level": a scale that just fits and one bit more, by each word at which it can first be too large
+    case (leaving 1 5 (In ∷ Us 0 35 ∷ [])) runs
+    (scaleRun (finished (held 20 1 (pos 1) (pos 2) (negsuc 2) ∷ held 55 1 (pos 1) (pos 2) (negsuc 2) ∷ [])))
+    ∷ case (leaving 1 5 (In ∷ Us 0 36 ∷ [])) runs (scaleRun (stopped 1 aboveModulus))
+    ∷ case (leaving 1 40 (In ∷ [])) runs (scaleRun (finished (held 20 1 (pos 1) (pos 2) (negsuc 2) ∷ [])))
+    ∷ case (leaving 1 41 (In ∷ [])) runs (scaleRun (stopped 0 aboveModulus))
+    ∷ case (leaving 1 5 (Const 7 ∷ Enc 0 55 1 ∷ [])) runs
+    (scaleRun (finished (Holding.bare (slots (pos 7) (negsuc 0) (pos 2)) ∷ held 55 1 (pos 7) (negsuc 0) (pos 2) ∷ [])))
+    ∷ case (leaving 1 5 (Const 7 ∷ Enc 0 56 1 ∷ [])) runs (scaleRun (stopped 1 aboveModulus))
+    ∷ case (leaving 1 20 (In ∷ Mul 0 0 ∷ [])) runs
+    (scaleRun (finished (held 20 1 (pos 1) (pos 2) (negsuc 2) ∷ held 40 1 (pos 1) (pos 4) (pos 9) ∷ [])))
+    ∷ case (leaving 1 21 (In ∷ Mul 0 0 ∷ [])) runs (scaleRun (stopped 1 aboveModulus))
+    ∷ case (leaving 2 40 (In ∷ Ms 0 1 ∷ [])) runs
+    (scaleRun (finished (held 20 2 (pos 1) (pos 2) (negsuc 2) ∷ held 20 1 (pos 1) (pos 2) (negsuc 2) ∷ [])))
+    ∷ case (leaving 2 41 (In ∷ Ms 0 1 ∷ [])) runs (scaleRun (stopped 1 aboveModulus))
+    -- the check refuses it with 9, 10 before 9, and 12 at the header before 9 where H differs; and where one file has none
+    ∷ case (leaving 1 5 (Const 7 ∷ [])) (checks (leaving 1 5 (Const 7 ∷ Enc 0 55 1 ∷ []))) (answering Done)
+    ∷ case (leaving 1 5 (Const 7 ∷ [])) (checks (leaving 1 5 (Const 7 ∷ Enc 0 56 1 ∷ []))) (answering (Refused 9 3))
+    ∷ case (leaving 1 60 (Const 7 ∷ [])) (checks (leaving 1 60 (Const 7 ∷ Enc 0 19 1 ∷ []))) (answering (Refused 10 3))
+    ∷ case (leaving 1 5 (Const 7 ∷ [])) (checks (leaving 1 6 (Const 7 ∷ Enc 0 56 1 ∷ []))) (answering (Refused 12 1))
+    ∷ case (leaving 1 5 (Const 7 ∷ [])) (checks (at 1 (Const 7 ∷ []))) (answering (Refused 12 1))
+    ∷ case (at 1 (Const 7 ∷ [])) (checks (leaving 1 5 (Const 7 ∷ []))) (answering (Refused 12 1))
+    ∷ []
+
+abbrev pub headroomPlans : List Case
+headroomPlans =
+    -- "a best reserve below H is too few levels". in 60 − 20 = 40 @ 1; mul 40 + 40 − 60 = 20 @ 1; with a constant 40 − 20 = 20 @ 1.
+    samePlan 1 40 (In ∷ []) (In ∷ [])
+    ∷ case (leaving 1 41 (In ∷ [])) plans (planning (unplanned 6 2))
+    ∷ samePlan 1 20 (In ∷ Mul 0 0 ∷ Out 1 ∷ []) (In ∷ Mul 0 0 ∷ Out 1 ∷ [])
+    ∷ case (leaving 1 21 (In ∷ Mul 0 0 ∷ Out 1 ∷ [])) plans (planning (unplanned 6 3))
+    ∷ samePlan 1 20 (In ∷ Const 7 ∷ Mul 1 0 ∷ []) (In ∷ Const 7 ∷ Enc 1 20 1 ∷ Mul 2 0 ∷ [])
+    ∷ case (leaving 1 21 (In ∷ Const 7 ∷ Mul 1 0 ∷ [])) plans (planning (unplanned 6 4))
+    -- the formulas stay. in 100 @ 2; mul 80 @ 2, m(80) = 2; mul 80 + 80 − 120 = 40 @ 2, m(40) = 1; neg 40 @ 1: (40, 2) to (40, 1): rs 1.
+    ∷ samePlan 2 40 (In ∷ Mul 0 0 ∷ Mul 1 1 ∷ Neg 2 ∷ []) (In ∷ Mul 0 0 ∷ Mul 1 1 ∷ Rs 2 1 ∷ Neg 3 ∷ [])
+    -- each level tried has H. Level 1: mul 20, mul 20 + 20 − 60 = −20; level 2: 40 as above; level 3: in 160, mul 140, mul 100.
+    ∷ case (leaving 1 40 (In ∷ Mul 0 0 ∷ Mul 1 1 ∷ [])) seeks (answering (Level 2))
+    ∷ case (leaving 1 41 (In ∷ Mul 0 0 ∷ Mul 1 1 ∷ [])) seeks (answering (Level 3))
+    -- in 60 − 60 = 0 @ 60: no level leaves one bit
+    ∷ case (under 1 60 1 (In ∷ [])) seeks (answering (Level 60))
+    ∷ case (underHeader 1 60 1 (Given 1) (In ∷ [])) seeks (answering (Refused 6 2))
+    ∷ []
+
+-- whether the scale machine holds only numbers below half of its modulus in this line of a schedule
+abbrev pub heldBelowHalf : File → ℕ → Bool
+heldBelowHalf file i =
+    elim (run (scaleMachine handed (file .header)) (file .lines)) [
+      | finished values ↦ isBelowHalf (getD values i (Holding.bare []))
+      | stopped j reason ↦ false
+    ]
+  where
+    isBelowHalf : Holding → Bool
+    isBelowHalf (Holding.bare v) = false
+    isBelowHalf (scaled s l v) = belowHalf (file .header) l v
+
+-- "circuit numbers … below two to the power (H − 1)", and "below half its modulus": what is computed, and what it is
+abbrev pub sizes : List (Bool × Bool)
+sizes =
+    (areSmall 5 (slots (pos 15) (negsuc 14) (pos 12)), true)
+    ∷ (areSmall 5 (slots (pos 0) (pos 16) (pos 0)), false)
+    ∷ (areSmall 5 (slots (pos 0) (pos 0) (negsuc 15)), false)
+    ∷ (areSmall 1 (slots (pos 0) (pos 0) (pos 0)), true)
+    ∷ (areSmall 1 (slots (negsuc 0) (pos 0) (pos 0)), false)
+    -- at level 1 the modulus is two to 60: 15 times two to 55 is below two to 59, and 16 times two to 55 is two to 59
+    ∷ (belowHalf (at 1 [] .header) 1 (timesTwoTo 55 (slots (pos 15) (negsuc 14) (pos 12))), true)
+    ∷ (belowHalf (at 1 [] .header) 1 (timesTwoTo 55 (slots (pos 0) (pos 16) (pos 0))), false)
+    ∷ (belowHalf (at 1 [] .header) 1 (timesTwoTo 55 (slots (pos 0) (pos 0) (negsuc 15))), false)
+    ∷ (belowHalf (at 1 [] .header) 2 (timesTwoTo 119 (slots (pos 0) (pos 0) (pos 0))), true)
+    ∷ (belowHalf (at 1 [] .header) 2 (timesTwoTo 118 (slots (pos 1) (negsuc 0) (pos 0))), true)
+    ∷ (belowHalf (at 1 [] .header) 2 (timesTwoTo 119 (slots (pos 1) (pos 0) (pos 0))), false)
+    -- an `out` at the highest scale that H = 3 leaves, 57 of 60 bits, of the first input, 1, 2 and −3, and of the third, 3, 4 and −1: 4 times two
+    -- to 57 is half the modulus; and without H at scale 60
+    ∷ (areSmall 3 (handed .inputs 0), true)
+    ∷ (heldBelowHalf (leaving 1 3 (In ∷ Us 0 37 ∷ Out 1 ∷ [])) 2, true)
+    ∷ (areSmall 3 (handed .inputs 2), false)
+    ∷ (heldBelowHalf (leaving 1 3 (In ∷ In ∷ In ∷ Us 2 37 ∷ Out 3 ∷ [])) 4, false)
+    ∷ (heldBelowHalf (at 1 (In ∷ Us 0 40 ∷ Out 1 ∷ [])) 2, false)
+    ∷ []
+
 abbrev pub cases : List Case
-cases = machineCases ++ planCases ++ constantCases
+cases = machineCases ++ planCases ++ constantCases ++ headroomCases ++ headroomPlans

@@ -1,10 +1,17 @@
 // The types that document 01's definitions and the code share. What they mean stands in specs/.
 
-// "F is the rescale factor, W the waterline, L the top level": one value wherever the three are used.
+// The header's fourth number, "bits of size with the sign", where it is given.
+pub enum Headroom {
+    None,
+    Given(u32),
+}
+
+// "F is the rescale factor, W the waterline, L the top level", and H: one value, so that "however F, W and L reach each line now, it travels with them".
 pub struct Header {
     pub factor: u32,
     pub waterline: u32,
     pub top: u32,
+    pub headroom: Headroom,
 }
 
 // The words of document 01's lines, and no word of them.

@@ -1,5 +1,5 @@
 // Reads a circuit on standard input and prints its schedule, or one line of `refused`, number and place.
-// The first 4,397 bytes decide what is printed, so no more than the buffer holds is read. Where reading fails, nothing is printed.
+// The first 4,400 bytes decide what is printed, so no more than the buffer holds is read. Where reading fails, nothing is printed.
 use libc::STDIN_FILENO;
 use libc::STDOUT_FILENO;
 ghost use Prim.Native.Nat.{_-_, _≤_};
@@ -27,7 +27,7 @@ fn read_from(buffer: &mut [u8], done: usize) -> Input
 
 // Reads until the buffer is full, the input ends or a read fails. What a full buffer leaves unread decides nothing.
 fn read_input(buffer: &mut [u8]) -> Input
-    requires { ⌜ 4397 ≤ length (now buffer) ⌝ }
+    requires { ⌜ 4400 ≤ length (now buffer) ⌝ }
     ensures { λ r. ⌜ Within (length (now (buffer .exit))) r ⌝ }
 {
     let mut done = 0;

@@ -21,7 +21,7 @@ use Rattle.model.specs.Scales.{headroom}
 use Rattle.model.specs.Files.{operands}
 use Rattle.model.specs.Machine.{Step, goes, stops}
 use Rattle.model.specs.Plan.{Draft, emit, smaller, unchangedChoice, timesConstantChoice, constantTimesChoice, productChoice, unlessTooFew, choiceOf, bestMachine}
-use Rattle.model.proofs.Tests.{HeaderFacts}
+use Rattle.model.proofs.Tests.{HeaderFacts, header-facts}
 use Rattle.model.proofs.Runs.{stops-goes, goes-is}
 use Rattle.model.proofs.Outcomes.{Outcome, AnyReason}
 use Rattle.model.proofs.Chosen.{unlessTooFew-elim}
@@ -135,13 +135,7 @@ module _ (h : Header) (H : HeaderFacts h) where
 -- ---- line x, done as p says
 module _ (h : Header) (x : Line) (a b : Operand) (p : Choice) (D : DoneAs h x a b p) where
   H : HeaderFacts h
-  H =
-      let g = D .ranges in
-      record {
-        factor = record { least = g .factor-least; most = g .factor-most };
-        waterline = record { least = g .waterline-least; most = g .waterline-most };
-        top = record { least = g .top-least; most = g .top-most };
-      }
+  H = header-facts h (D .in-range)
 
   valid-first : ValidBest h H (bestOf a)
   valid-first = valid h H a (D .first)

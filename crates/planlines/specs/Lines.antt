@@ -1,18 +1,19 @@
 -- The lines of one circuit line, from what is known of its operands.
-use Prim.Native.Nat.{ℕ, _+_, _*_, _≤_}
+use Prim.Native.Nat.{_+_, _*_, _≤_}
 use mathlib.Core.Bool.{true}
 use mathlib.Core.List.{List, [], _∷_}
 use mathlib.Core.Path.{_≡_}
+use lib.Dec.{T}
 use Rattle.ints.specs.Parts.{positive}
 use Rattle.model.specs.declared.Header.{Header}
 use Rattle.model.specs.declared.Line.{Line}
 use Rattle.model.specs.declared.Choice.{Choice}
 use Rattle.model.specs.declared.Best.{Best}
-use Rattle.model.specs.Scales.{headroom}
+use Rattle.model.specs.Scales.{headerInRange, headroom}
 use Rattle.model.specs.Machine.{goes}
 use Rattle.model.specs.Plan.{Draft, emit, choiceOf, planLine}
 use Rattle.tables.specs.Operands.{withOperands}
-use Rattle.choices.specs.Ranges.{HeaderRanges, Small}
+use Rattle.choices.specs.Ranges.{Small}
 use Rattle.conversions.specs.declared.Operand.{Operand}
 use Rattle.conversions.specs.Operands.{bestOf, supplied}
 use Rattle.linechoices.specs.Steps.{stepOn}
@@ -44,9 +45,9 @@ pub record Plannable (h : Header) (o : Operand) : Type 0 where
   pub small : Small (o .reserve)
   pub stands : o .ciphertext ≡ true → Stands h o
 
--- The machine goes on with line x, which is then done as p says.
+-- The machine goes on with line x, which is then done as p says. The header is in its ranges.
 pub record DoneAs (h : Header) (x : Line) (a b : Operand) (p : Choice) : Type 0 where
-  pub ranges : HeaderRanges h
+  pub in-range : T (headerInRange h)
   pub first : Plannable h a
   pub second : Plannable h b
   pub best : Best

@@ -4,7 +4,7 @@ use native.Mathlib.Decide.{decLe}
 use native.Mathlib.Numerals.{add-one}
 use native.Mathlib.Omega.{arith}
 use mathlib.Core.Path.{_≡_, refl, sym, ap, ap₂, _∙_, subst}
-use mathlib.Core.Bool.{Bool, true}
+use mathlib.Core.Bool.{Bool}
 use mathlib.Core.List.{List, [], _∷_, _++_, append-nil}
 use mathlib.Core.Option.{some, Option·none-ne-some}
 use borrow.Author.Needs.{needs}
@@ -26,14 +26,15 @@ use Rattle.model.specs.declared.Line.the-variants.{Free}
 use Rattle.model.specs.declared.Choice.{Choice}
 use Rattle.model.specs.declared.Best.{Best}
 use Rattle.model.specs.declared.Best.the-variants as Bests
-use Rattle.model.specs.Files.{wellFormed, operands, everyUsable, kindOf, kindAt, isUsable, isCiphertext}
+use Rattle.model.specs.Files.{wellFormed, operands, everyUsable, kindAt, isUsable, isCiphertext}
 use Rattle.model.specs.Machine.{Step, goes, stops, Run, finished, stopped, step, countIn, runFrom, run}
 use Rattle.model.specs.Plan.{Draft, bestMachine, choiceOf, planLine, planFrom, planLines}
+use Rattle.model.specs.Scales.{headerInRange}
 use Rattle.model.specs.Services as Services
 use Rattle.model.specs.Services.{plan}
 use Rattle.model.proofs.Tests.{and-first, and-second, is-ciphertext, HeaderFacts, header-facts}
-use Rattle.model.proofs.Lists.{length-snoc, found-below, found-after, found-last, found-at, found-is, found-snoc}
-use Rattle.model.proofs.Runs.{stops-goes, goes-is, Continued, continued}
+use Rattle.model.proofs.Lists.{found-below, found-after, found-last, found-at, found-is, found-snoc}
+use Rattle.model.proofs.Runs.{stops-goes, Continued, continued}
 use Rattle.model.proofs.Reason.{only-six}
 use Rattle.model.proofs.Formed.{LineFacts, formed-line, well-header, well-lines, well-take, usable-below}
 use Rattle.model.proofs.Outcomes.{Outcome}
@@ -43,11 +44,11 @@ use Rattle.text.specs.Tables.{TableFormed, fileOf}
 use Rattle.tables.specs.Operands.{firstOperand, secondOperand}
 use Rattle.tables.specs.Records.{lineOf, linesOf, linesHeld, freeRecords, held}
 use Rattle.tables.proofs.Records.{free-long}
-use Rattle.choices.specs.Ranges.{HeaderRanges, Small}
+use Rattle.choices.specs.Ranges.{Small}
 use Rattle.choices.proofs.Readings.{small-fits}
 use Rattle.conversions.specs.declared.Drafted.{Drafted}
 use Rattle.conversions.specs.declared.Operand.{Operand}
-use Rattle.conversions.specs.Drafts.{draftOf, Room, Wrote}
+use Rattle.conversions.specs.Drafts.{Room, Wrote}
 use Rattle.conversions.specs.Operands.{bestOf, operandIn}
 use Rattle.conversions.proofs.PutLaws.{reading, read-same}
 use Rattle.linechoices.specs.declared.LineChoice.{LineChoice}
@@ -170,19 +171,11 @@ module _ {h : Header} {records : List (List ℕ)} {size : ℕ} {schedule : List 
     before-length : length before ≡ i
     before-length = length-take-le i (linesOf records) (omega (arith, records-long, small-size))
 
-    H : HeaderFacts h
-    H = header-facts h (well-header Circuit h lines (w .formed .lines))
+    in-range : T (headerInRange h)
+    in-range = well-header Circuit h lines (w .formed .lines)
 
-    ranges : HeaderRanges h
-    ranges =
-        record {
-          factor-least = H .factor .least;
-          factor-most = H .factor .most;
-          waterline-least = H .waterline .least;
-          waterline-most = H .waterline .most;
-          top-least = H .top .least;
-          top-most = H .top .most;
-        }
+    H : HeaderFacts h
+    H = header-facts h in-range
 
     -- the first lines
     whole : (n : ℕ) → n ≤ size → (bests : List Best) → run (bestMachine h) (linesHeld records n) ≡ finished bests
@@ -318,7 +311,7 @@ module _ {h : Header} {records : List (List ℕ)} {size : ℕ} {schedule : List 
         pub line-known : Known h x o o′
         line-known =
             record {
-              ranges = ranges;
+              in-range = in-range;
               first = subst (λ (q : Operand). Small (q .reserve)) (sym eo) (w .small a);
               second = subst (λ (q : Operand). Small (q .reserve)) (sym eo′) (w .small b);
               only-six = λ n e. only-six h lines (w .formed .lines) i n (run-stops n e);
@@ -362,7 +355,7 @@ module _ {h : Header} {records : List (List ℕ)} {size : ℕ} {schedule : List 
             pub done-as : DoneAs h x o o′ p
             done-as =
                 record {
-                  ranges = ranges;
+                  in-range = in-range;
                   first = subst (Plannable h) (sym eo) (plannable a);
                   second = subst (Plannable h) (sym eo′) (plannable b);
                   best = went .alone .itself;

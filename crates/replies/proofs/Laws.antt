@@ -53,15 +53,15 @@ module _ (word : Bytes) (h : Header) (records : List (List ℕ)) (count : ℕ) (
   abbrev held-text : Bytes
   held-text = textUnder word (fileOf (held h records count))
 
-  text-few : length held-text ≤ 72 * count + 75
+  text-few : length held-text ≤ 72 * count + 97
   text-few =
       omega (arith, text-most word (fileOf (held h records count)) short, count-length (held h records count) (length-map records lineOf ∙ all) few)
 
-  pub room-for-all : (room : ℕ) → 72 * count + 75 ≤ room → leb (72 * count + 75) room ≡ leb (length held-text) room
+  pub room-for-all : (room : ℕ) → 72 * count + 97 ≤ room → leb (72 * count + 97) room ≡ leb (length held-text) room
   room-for-all room enough =
-      le-leb (72 * count + 75) room enough ∙ sym (le-leb (length held-text) room (omega (arith, text-few)))
+      le-leb (72 * count + 97) room enough ∙ sym (le-leb (length held-text) room (omega (arith, text-few)))
 
-  pub counted-through : (room needed : ℕ) → Counted held-text 129096 needed → leb needed room ≡ leb (length held-text) room
+  pub counted-through : (room needed : ℕ) → Counted held-text 129117 needed → leb needed room ≡ leb (length held-text) room
   counted-through room needed c = ap (λ (n : ℕ). leb n room) (c .counted)
 
   pub length-fits : (out after : Bytes) (written : ℕ) → Written out held-text written after → Fits w32 written

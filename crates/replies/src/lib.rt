@@ -70,7 +70,7 @@ fn bytes_needed<'a>(
     requires { ⌜ count ≤ 1792 ⌝ }
     ensures { λ r. ⌜ leb r room ≡ leb (length (textUnder (now (word .entry)) (fileOf (held header (now (records .entry)) count)))) room ⌝ }
 {
-    let most = 72 * count + 75;
+    let most = 72 * count + 97;
     if most <= room {
         return most;
     }

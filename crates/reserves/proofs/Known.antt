@@ -19,6 +19,7 @@ use Rattle.model.specs.declared.Line.the-variants.{Free}
 use Rattle.model.specs.Files.{kindOf, kindAt, isConstant, isUsable, wellFormed}
 use Rattle.model.specs.Machine.{Step, goes, stops, Run, finished, stopped, step, countIn, runFrom, run}
 use Rattle.model.specs.Plan.{bestMachine, choiceOf, planLines}
+use Rattle.model.specs.Scales.{headerInRange}
 use Rattle.model.proofs.Formed.{LineFacts, formed-line, usable-below, well-header, well-lines, well-take, Named, Matched, DutyFor, formed-step}
 use Rattle.model.proofs.Lists.{found-at}
 use Rattle.model.proofs.Outcomes.{Outcome}
@@ -86,8 +87,11 @@ module _ {h : Header} {records : List (List ℕ)} {reserves : List ℤ} {i : ℕ
   pub before-long : length before ≡ i
   before-long = length-take-le i (linesOf records) (omega (arith, length-map records lineOf, k .some))
 
+  pub header-in-range : T (headerInRange h)
+  header-in-range = well-header Circuit h (linesHeld records (i + 1)) (k .formed)
+
   pub header-ranged : HeaderFacts h
-  header-ranged = header-facts h (well-header Circuit h (linesHeld records (i + 1)) (k .formed))
+  header-ranged = header-facts h header-in-range
 
   formed-before : T (wellFormed Circuit h before)
   formed-before =

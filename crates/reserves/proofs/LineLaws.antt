@@ -29,28 +29,16 @@ use Rattle.model.specs.Scales.{headroom}
 use Rattle.model.proofs.Formed.{usable-below, Named, OnOperand, OnOperands}
 use Rattle.model.proofs.Outcomes.{Outcome}
 use Rattle.model.proofs.Supplies.{ValidBest}
-use Rattle.model.proofs.Tests.{and-first, and-second, by-test, HeaderFacts}
+use Rattle.model.proofs.Tests.{and-first, and-second, by-test}
 use Rattle.tables.specs.Bests.{reservesRun}
 use Rattle.tables.specs.Records.{linesOf, linesHeld}
 use Rattle.reserves.specs.declared.LineReserve.{LineReserve}
 use Rattle.reserves.specs.Pairs.{KnownOperand, pairReserve, sumReserve, productReserve}
 use Rattle.choices.specs.Ranges.{HeaderRanges, Small}
 use Rattle.reserves.specs.Walks.{stepOf, unlessTooLow, oneMore, KnownTo}
-use Rattle.choices.proofs.ChoiceLaws.{top-modulus}
-use Rattle.reserves.proofs.Known.{before, before-long, bests, header-ranged, line-facts, Holds, matched, StopsAs, GoesAs, line-comes}
+use Rattle.choices.proofs.ChoiceLaws.{ranges, top-modulus}
+use Rattle.reserves.proofs.Known.{before, before-long, bests, header-in-range, header-ranged, line-facts, Holds, matched, StopsAs, GoesAs, line-comes}
 use Rattle.choices.proofs.Readings.{held, result-held, small-held}
-
--- ---- the header
-pub ranges : (h : Header) → HeaderFacts h → HeaderRanges h
-ranges h H =
-    record {
-      factor-least = H .factor .least;
-      factor-most = H .factor .most;
-      waterline-least = H .waterline .least;
-      waterline-most = H .waterline .most;
-      top-least = H .top .least;
-      top-most = H .top .most;
-    }
 
 -- ---- one line, the i-th
 module _ {h : Header} {records : List (List ℕ)} {reserves : List ℤ} {i : ℕ} (k : KnownTo h records reserves i) where
@@ -182,6 +170,7 @@ module _ {h : Header} {records : List (List ℕ)} {reserves : List ℤ} {i : ℕ
 
 pub ruleset lines = (
   needs,
+  header-in-range,
   header-fits,
   top-modulus,
   first-named,

@@ -22,7 +22,7 @@ abbrev pub stepOf : LineReserve → Step ℤ ℕ
 stepOf (Leaves r) = goes r
 stepOf TooFew = stops 6
 
--- "The best reserve may come out below zero; then the circuit is refused at that line."
+-- "The best reserve may come out below zero; then the circuit is refused at that line.", and below H where it is given
 abbrev pub unlessTooLow : Header → ℤ → Step ℤ ℕ
 unlessTooLow h r = cond (ltZ r (pos (headroom h))) (stops 6) (goes r)
 

@@ -5,7 +5,9 @@ use model::Line;
 use tables::Record;
 ghost use mathlib.Core.Path.{_≡_};
 ghost use Prim.Native.Nat.{_+_};
+ghost use lib.Dec.{T};
 ghost use lib.ListN.{take};
+ghost use Rattle.model.specs.Scales.{headerInRange};
 ghost use Rattle.tables.specs.Bests.{reservesRun};
 ghost use Rattle.tables.specs.Records.{linesHeld};
 ghost use Rattle.choices.specs.Ranges.{HeaderRanges};
@@ -20,6 +22,7 @@ pub enum LineReserve {
 
 // A line whose best reserve is below the headroom has too few levels.
 fn unless_too_low(header: Header, reserve: i32) -> LineReserve
+    requires { ⌜ T (headerInRange header) ⌝ }
     ensures { λ r. ⌜ stepOf r ≡ unlessTooLow header reserve ⌝ }
 {
     if reserve < scales::headroom(header) {

@@ -10,14 +10,15 @@ use Rattle.fields.specs.Pieces.{Bytes}
 use Rattle.rows.specs.Rows.{Reading, read, refused}
 use Rattle.model.specs.declared.Answer.{Answer}
 use Rattle.model.specs.declared.Answer.the-variants.{Done, Level, Refused}
-use Rattle.model.specs.declared.Grammar.the-variants.{Schedule}
+use Rattle.model.specs.declared.Grammar.the-variants.{Circuit, Schedule}
 use Rattle.model.specs.Words.{ascii}
 use Rattle.model.specs.Files.{File}
 use Rattle.model.specs.Rules.{KeepsRules}
+use Rattle.model.specs.Services.{eraseFile}
 use Rattle.model.specs.Answers.{checkMachine, rulesAnswer}
 use Rattle.model.specs.Machine.{run}
 use Rattle.model.proofs.Theorems as Model
-use Rattle.text.specs.Files.{readText, eraseContext, textUnder, fileText}
+use Rattle.text.specs.Files.{readText, scheduleContext, eraseContext, textUnder, fileText}
 use Rattle.text.proofs.FileLaws.{FileBack, file-read-written}
 use Rattle.listings.specs.Listings.{Listing, readListing, listingText}
 use Rattle.listings.specs.Rules.{KeepsRisingRules}
@@ -28,11 +29,12 @@ use Rattle.services.specs.declared.Reply.{Reply}
 use Rattle.services.specs.Outcomes.{Outcome, writes, refuses, lent, replyOf, Replied}
 use Rattle.services.specs.Calls.{onceRead}
 use Rattle.services.specs.Promises as Promises
-use Rattle.services.specs.Promises.{OnceRead}
+use Rattle.services.specs.Promises.{OnceRead, Passed}
 use Rattle.services.specs.Listings.{Converts, converts}
 use Rattle.services.proofs.Lending.{Writing, text, refusal, lent-replies}
-use Rattle.services.proofs.Texts.{is-unread, text-inverse, few-lines}
+use Rattle.services.proofs.Texts.{is-unread, text-inverse, few-lines, schedule-back, passed-texts, passed-exact}
 use Rattle.services.proofs.OneOutcome.{One, one-read, keeps-up-to, first-broken-one}
+use Rattle.services.proofs.Erasing.{erasure-reads}
 use Rattle.services.proofs.Converting.{not-level, becomes}
 use Rattle.risingwriter.specs.GoingOut.{risingFile, GoesOut, ToRisingComesTo, breaks-rule, goes-out, Outgoing, withoutDownscale, ToRisingPromise}
 use Rattle.risingwriter.specs.Calls.{turnedFile, ruledOutcome, toRisingOutcome}
@@ -68,6 +70,12 @@ module _ (schedule : Bytes) {s : File} (e : readText eraseContext schedule ≡ r
     becomes-again =
         subst (Converts (risingFile s)) (ap (fileText Schedule) same-file ∙ back .written) (becomes (risingFile s) (listing-facts (rising s) reads-rising) kept few)
 
+    passes-check : Passed (fileText Circuit (eraseFile s)) schedule
+    passes-check =
+        passed-texts (fileText Circuit (eraseFile s)) schedule (erasure-reads schedule e)
+        (subst (λ (t : Bytes). readText scheduleContext t ≡ read s) (back .written) (schedule-back s (back .formed) (few-lines eraseContext back)))
+        (record { circuit-formed = Model.erasing (s .header) (s .lines) (back .formed) .formed; schedule-formed = back .formed; keeps = k; erases = refl })
+
     out : GoesOut schedule s (rising s)
     out =
         record {
@@ -76,6 +84,8 @@ module _ (schedule : Bytes) {s : File} (e : readText eraseContext schedule ≡ r
           reads = reads-rising;
           keeps-rising = kept;
           back = Promises.is-read (risingFile s) _ reads-rising (converts schedule becomes-again);
+          passed = passes-check;
+          exact = passed-exact (fileText Circuit (eraseFile s)) schedule passes-check;
         }
 
   ruled : (a : Answer) → rulesAnswer (s .header) (s .lines) ≡ a → ToRisingComesTo schedule s (ruledOutcome s a)

@@ -8,15 +8,17 @@ use lib.Dec.{T}
 use lib.ListN.{length}
 use Rattle.fields.specs.Pieces.{Bytes}
 use Rattle.rows.specs.Rows.{read}
+use Rattle.model.specs.declared.Grammar.the-variants.{Circuit}
 use Rattle.model.specs.Files.{File}
 use Rattle.model.specs.Rules.{KeepsRules}
 use Rattle.model.specs.Broken.{FirstBroken}
-use Rattle.text.specs.Files.{readText, eraseContext}
+use Rattle.model.specs.Services.{eraseFile}
+use Rattle.text.specs.Files.{readText, eraseContext, fileText}
 use Rattle.listings.specs.Listings.{Listed, line, downscale, Listing, turned, readListing, listingText}
 use Rattle.listings.specs.Rules.{KeepsRisingRules}
 use Rattle.services.specs.declared.Reply.{Reply}
 use Rattle.services.specs.Outcomes.{Outcome, writes, refuses}
-use Rattle.services.specs.Promises.{TheOutcome, Lent, IsInverse, OnceRead}
+use Rattle.services.specs.Promises.{TheOutcome, Lent, IsInverse, OnceRead, Passed, IsExact}
 use Rattle.services.specs.Listings.{FromRisingComesTo, Converts}
 
 -- "In `enc`, level E becomes L − E", and each other line stays: "Going out, nothing is folded into `ds`."
@@ -32,6 +34,9 @@ pub record GoesOut (schedule : Bytes) (file : File) (written : Bytes) : Type 0 w
   pub reads : readListing written ≡ read (risingFile file)
   pub keeps-rising : KeepsRisingRules (file .header) (risingFile file .lines)
   pub back : OnceRead (readListing written) 1 FromRisingComesTo (writes schedule)
+  -- and of the schedule: it passes against its erasure, and is exact
+  pub passed : Passed (fileText Circuit (eraseFile file)) schedule
+  pub exact : IsExact (passed .files)
 
 pub data ToRisingComesTo (schedule : Bytes) (file : File) : Outcome → Type 0 where
   breaks-rule : (number place : ℕ) → FirstBroken (file .header) (file .lines) number place

@@ -118,6 +118,17 @@ fields-read-written (f ∷ fs) (b ∷ bs) {ns} e = go (readField f b) (readField
         subst (FieldsBack (f ∷ fs) (b ∷ bs)) (some-is v)
         (record { held = field (first .held) (rest .held); few = E.one (first .few) (rest .few); written = λ i. first .written i ∷ rest .written i })
 
+-- more fields than are described
+both-none : (o : Option ℤ) → both o none ≡ none
+both-none none = refl
+both-none (some n) = refl
+
+pub fields-fewer : (fs : List Holds) (bs : List Bytes) → length fs < length bs → readFields fs bs ≡ none
+unfolding readFields
+fields-fewer fs [] fewer = absurd (omega arith)
+fields-fewer [] (b ∷ bs) fewer = refl
+fields-fewer (f ∷ fs) (b ∷ bs) fewer = ap (both (readField f b)) (fields-fewer fs bs (omega arith)) ∙ both-none (readField f b)
+
 pub numbers-without : (x : ℕ) → x < 45 → (ns : List ℤ) → Each (Without x) (map amountText ns)
 numbers-without x low [] = E.none
 numbers-without x low (n ∷ ns) = E.one (amount-text-without n x low) (numbers-without x low ns)

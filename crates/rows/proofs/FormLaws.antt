@@ -15,9 +15,9 @@ use Rattle.fields.proofs.Each.{Each}
 use Rattle.fields.proofs.PieceLaws.{Without, split-join, join-split, join-without, same-bytes, bytes-same}
 use Rattle.rows.specs.Fields.{Holds, readFields}
 use Rattle.rows.specs.Wordless.{wordless}
-use Rattle.rows.specs.Forms.{Form, saidText, afterWord, titled, Vocabulary, Said, named, saying, readSaid, worded, made}
+use Rattle.rows.specs.Forms.{Form, saidText, afterWord, titled, orElse, either, Vocabulary, Said, named, saying, readSaid, worded, made}
 use Rattle.rows.proofs.Tests.{and-first, and-second, cond-cases, cond-true}
-use Rattle.rows.proofs.FieldLaws.{some-is, none-some, Held, Fields, Short, fields-written-read, fields-read-written, fields-length, numbers-without}
+use Rattle.rows.proofs.FieldLaws.{some-is, none-some, Held, Fields, Short, fields-written-read, fields-read-written, fields-fewer, fields-length, numbers-without}
 use Rattle.rows.proofs.LengthLaws.{fields-most}
 
 -- A lawful form: what is read is written so, on one line. That what is written is read back asks its numbers to be short.
@@ -103,6 +103,36 @@ module _ (word : Bytes) (fs : List Holds) where
     titled-forth {ns} held short =
         ap (afterWord word fs) (said-fields word are ns) ∙ cond-true (sameBytes word word) (readFields fs (map amountText ns)) none (bytes-same word)
         ∙ fields-written-read held short
+
+    -- fewer fields than it has numbers
+    pub titled-fewer : (ns : List ℤ) → length fs < length ns → titled word fs .reads (saidText word ns) ≡ none
+    titled-fewer ns fewer =
+        let numbers = length-map ns amountText in
+        ap (afterWord word fs) (said-fields word are ns) ∙ cond-true (sameBytes word word) (readFields fs (map amountText ns)) none (bytes-same word)
+        ∙ fields-fewer fs (map amountText ns) (omega arith)
+
+-- ---- lines of one form, or else of another
+module _ {A : Type 0} (one other : Form A) where
+  pub either-back : (p : Bytes) {x : A} → either one other .reads p ≡ some x → (P : A → Type 0) → ((y : A) → one .reads p ≡ some y → P y)
+      → ((y : A) → other .reads p ≡ some y → P y) → P x
+  either-back p {x} e P first second = go (one .reads p) refl e
+    where
+      go : (o : Option A) → one .reads p ≡ o → orElse o (other .reads p) ≡ some x → P x
+      go none q v = second x v
+      go (some y) q v = subst P (some-is v) (first y q)
+
+  pub either-law : ((x : A) → other .text x ≡ one .text x) → LawfulForm one → LawfulForm other → LawfulForm (either one other)
+  either-law same first second =
+      record {
+        written = λ p x e. either-back p e (λ y. one .text y ≡ p) (first .written p) (λ y q. sym (same y) ∙ second .written p y q);
+        closed = first .closed;
+      }
+
+  pub either-first : (p : Bytes) {x : A} → one .reads p ≡ some x → either one other .reads p ≡ some x
+  either-first p e = ap (λ (o : Option A). orElse o (other .reads p)) e
+
+  pub either-second : (p : Bytes) {x : A} → one .reads p ≡ none → other .reads p ≡ some x → either one other .reads p ≡ some x
+  either-second p e q = ap (λ (o : Option A). orElse o (other .reads p)) e ∙ q
 
 -- ---- lines that begin with one of several words
 module _ {W : Type 0} (v : Vocabulary W) where

@@ -24,6 +24,14 @@ afterWord word fs (field ∷ fields) = cond (sameBytes field word) (readFields f
 abbrev pub titled : Bytes → List Holds → Form (List ℤ)
 titled word fs = record { reads = λ p. afterWord word fs (split tab p); text = saidText word }
 
+-- ---- lines of one form, or else of another that is written in the same way
+abbrev pub orElse : {A : Type 0} → Option A → Option A → Option A
+orElse none other = other
+orElse (some x) other = some x
+
+abbrev pub either : {A : Type 0} → Form A → Form A → Form A
+either one other = record { reads = λ p. orElse (one .reads p) (other .reads p); text = one .text }
+
 -- ---- lines that begin with one of several words
 -- words, each with its bytes and what the fields after it hold
 pub record Vocabulary (W : Type 0) : Type 0 where

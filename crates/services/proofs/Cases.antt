@@ -17,6 +17,7 @@ use Rattle.rows.specs.Rows.{readLine, rowsFrom, ended, readLines, readFile, fil
 use Rattle.services.specs.Outcomes.{Outcome, writes, passes, fitsAt, refuses}
 use Rattle.services.specs.Calls.{convertedOutcome}
 use Rattle.services.specs.WorkedListings.{listingRows, fullPlaces, allAlike}
+use Rattle.services.specs.WorkedHeadroom.{headroomRows}
 use Rattle.services.specs.Worked.{Finding, comesTo, gives, prints, scaleAndLevel, unscaled, Row, shown, findingOf, findingCode, rowHolds, allHold, table, noRow}
 
 pub tested : T (allHold table)
@@ -26,6 +27,10 @@ tested = tt
 pub listings-tested : T (allHold listingRows)
 unfolding convertedOutcome headroom split join sameBytes digitsOf numberOf amountOf decimalIn readFields named linesOf textOf readLine rowsFrom ended readLines readFile fileText
 listings-tested = tt
+
+pub headroom-tested : T (allHold headroomRows)
+unfolding convertedOutcome headroom split join sameBytes digitsOf numberOf amountOf decimalIn readFields named linesOf textOf readLine rowsFrom ended readLines readFile fileText
+headroom-tested = tt
 
 pub places-tested : T (allAlike fullPlaces)
 places-tested = tt

@@ -23,8 +23,8 @@ use Rattle.rows.proofs.FieldLaws.{some-is, none-some}
 use Rattle.rows.proofs.LineLaws as Lines
 use Rattle.rows.proofs.LineLaws.{split-lines}
 use Rattle.rows.proofs.RowLaws.{file-lines}
-use Rattle.text.specs.Files.{headerForm, lineForm, circuitContext, format, fileText}
-use Rattle.text.proofs.WordLaws.{any-word}
+use Rattle.text.specs.Files.{headerWord, headerForm, lineForm, circuitContext, format, fileText}
+use Rattle.text.proofs.WordLaws.{any-word, header-letters}
 use Rattle.text.proofs.FormLaws.{header-forth, line-forth}
 use Rattle.text.proofs.FileLaws.{lawful}
 use Rattle.services.specs.Promises.{TextsDifferAt}
@@ -51,7 +51,10 @@ file-split f =
 
 -- ---- one text is one line's
 same-header : (h k : Header) → T (headerInRange h) → T (headerInRange k) → headerPiece h ≡ headerPiece k → h ≡ k
-same-header h k t u e = some-is (sym (header-forth Circuit h t) ∙ ap (headerForm Circuit .reads) e ∙ header-forth Circuit k u)
+same-header h k t u e = some-is (sym (forth h t) ∙ ap (headerForm Circuit .reads) e ∙ forth k u)
+  where
+    forth : (h : Header) → T (headerInRange h) → headerForm Circuit .reads (headerForm Circuit .text h) ≡ some h
+    forth = header-forth (headerWord Circuit) (header-letters Circuit)
 
 empty-unread : lineForm .reads [] ≡ none
 unfolding split named sameBytes

@@ -1,4 +1,4 @@
--- What the program prints: a plan's text fits the buffer, so the reply is the plan or a refusal of its own; and the first 4,397 bytes decide.
+-- What the program prints: a plan's text fits the buffer, so the reply is the plan or a refusal of its own; and the first 4,400 bytes decide.
 -- Assumes nothing.
 use Prim.Native.Nat.{ℕ, _≤_}
 use native.Mathlib.Omega.{arith}
@@ -27,10 +27,10 @@ use Rattle.services.proofs.Planning.{PlanCase, unread, few, written, pl
 use Rattle.services.proofs.Texts.{few-lines, number-told}
 use Rattle.text.proofs.Refusals.{not-zero}
 
-pub decided : (input more : Bytes) → 4397 ≤ length input → programText (input ++ more) ≡ programText input
+pub decided : (input more : Bytes) → 4400 ≤ length input → programText (input ++ more) ≡ programText input
 decided input more long =
     ap (λ (x : Reading File). printed (onceRead 1 x (λ f. planned (plan f))))
-    (Text.first-bytes (input ++ more) ∙ ap (readText circuitContext) (take-append-le 4397 input more long) ∙ sym (Text.first-bytes input))
+    (Text.first-bytes (input ++ more) ∙ ap (readText circuitContext) (take-append-le 4400 input more long) ∙ sym (Text.first-bytes input))
 
 -- the line of a refusal is short
 pub refused-short : (n p : ℕ) → length (refusedLine n p) ≤ 52

@@ -7,3 +7,4 @@ pub mod Calls
 pub mod Program
 pub mod Worked
 pub mod WorkedListings
+pub mod WorkedHeadroom

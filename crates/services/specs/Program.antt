@@ -25,8 +25,8 @@ printed (refuses n f p) = refusedLine n p
 abbrev pub programText : Bytes → Bytes
 programText input = printed (planOutcome input)
 
--- what it prints stands at the front of the buffer, and what follows the first 4,397 bytes of the input does not change it
+-- what it prints stands at the front of the buffer, and what follows the first 4,400 bytes of the input does not change it
 pub record ProgramPromise (input out : Bytes) (count : ℕ) (after : Bytes) : Type 0 where
   pub counted : count ≡ length (programText input)
   pub printed : after ≡ programText input ++ drop count out
-  pub decided : (more : Bytes) → 4397 ≤ length input → programText (input ++ more) ≡ programText input
+  pub decided : (more : Bytes) → 4400 ≤ length input → programText (input ++ more) ≡ programText input

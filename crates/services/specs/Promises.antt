@@ -82,10 +82,10 @@ pub record Passed (circuit schedule : Bytes) : Type 0 where
 -- ---- demand 3
 -- "whatever whole numbers its inputs and constants are, …": the two machines on the files of these bytes
 abbrev pub IsExact : {circuit schedule : Bytes} → BothRead circuit schedule → Type 0
-IsExact files = (H : Handed) → Exact H (files .schedule-file .header) (files .circuit-file .lines) (files .schedule-file .lines)
+IsExact files = (handed : Handed) → Exact handed (files .schedule-file .header) (files .circuit-file .lines) (files .schedule-file .lines)
 
 -- 6 at this place, of the lines of a circuit under a header: no schedule exists, and it is told "at the first line with best reserve below
--- zero": the lines before it have a schedule, and with it they have none
+-- zero", or below H where it is given: the lines before it have a schedule, and with it they have none
 pub record TooFew (h : Header) (lines : List Line) (place : ℕ) : Type 0 where
   pub line : ℕ
   pub place-is : place ≡ placeOf line

@@ -29,6 +29,10 @@ pub three-more : (w a b c : Bytes) → join tab (w ∷ a ∷ b ∷ c ∷ []) ≡
 unfolding join
 three-more w a b c = simp append-assoc
 
+pub four-more : (w a b c d : Bytes) → join tab (w ∷ a ∷ b ∷ c ∷ d ∷ []) ≡ join tab (w ∷ a ∷ b ∷ c ∷ []) ++ (tab ∷ d)
+unfolding join
+four-more w a b c d = simp append-assoc
+
 pub rot-more :
     (w a : Bytes) (z : ℤ) → SFits w16 z → join tab (w ∷ a ∷ amountText z ∷ []) ≡ join tab (w ∷ a ∷ []) ++ (tab ∷ amountText (held z))
 rot-more w a z h = rw (← amount-held z h) (two-more w a (amountText z))
@@ -45,7 +49,10 @@ two-goes-on w a b = goes-on (join tab (w ∷ a ∷ [])) tab b (join tab (w ∷ a
 pub three-goes-on : (w a b c : Bytes) → GoesOn (join tab (w ∷ a ∷ b ∷ [])) (join tab (w ∷ a ∷ b ∷ c ∷ []))
 three-goes-on w a b c = goes-on (join tab (w ∷ a ∷ b ∷ [])) tab c (join tab (w ∷ a ∷ b ∷ c ∷ [])) (three-more w a b c)
 
-pub ruleset field-texts = (one-more, two-more, three-more, rot-more, amount-more, one-goes-on, two-goes-on, three-goes-on)
+pub four-goes-on : (w a b c d : Bytes) → GoesOn (join tab (w ∷ a ∷ b ∷ c ∷ [])) (join tab (w ∷ a ∷ b ∷ c ∷ d ∷ []))
+four-goes-on w a b c d = goes-on (join tab (w ∷ a ∷ b ∷ c ∷ [])) tab d (join tab (w ∷ a ∷ b ∷ c ∷ d ∷ [])) (four-more w a b c d)
+
+pub ruleset field-texts = (one-more, two-more, three-more, four-more, rot-more, amount-more, one-goes-on, two-goes-on, three-goes-on, four-goes-on)
 
 pub one-counted : (w a : Bytes) (q : ℕ) → length w ≤ 8 → Counted a 20 q → Counted (join tab (w ∷ a ∷ [])) 29 (length w + 1 + q)
 one-counted w a q h c =

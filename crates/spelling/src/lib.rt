@@ -108,7 +108,7 @@ fn amount_len(amount: i16) -> usize
     digits
 }
 
-// ---- fields: a field with the tab before it, and a word with one to three fields
+// ---- fields: a field with the tab before it, and a word with one to four fields
 fn put_number_field(out: &mut [u8], at: usize, n: u32) -> usize
     requires { ⌜ at + length (tab ∷ decimal n) ≤ length (now out) ⌝ }
     ensures { λ r. ⌜ Put (now (out .entry)) at (tab ∷ decimal n) r (now (out .exit)) ⌝ }
@@ -149,6 +149,14 @@ pub fn put_three(out: &mut [u8], at: usize, word: &[u8], a: u32, b: u32, c: u32)
     put_number_field(out, next, c)
 }
 
+pub fn put_four(out: &mut [u8], at: usize, word: &[u8], a: u32, b: u32, c: u32, d: u32) -> usize
+    requires { ⌜ at + length (join tab (now word ∷ decimal a ∷ decimal b ∷ decimal c ∷ decimal d ∷ [])) ≤ length (now out) ⌝ }
+    ensures { λ r. ⌜ Put (now (out .entry)) at (join tab (now (word .entry) ∷ decimal a ∷ decimal b ∷ decimal c ∷ decimal d ∷ [])) r (now (out .exit)) ⌝ }
+{
+    let next = put_three(out, at, word, a, b, c);
+    put_number_field(out, next, d)
+}
+
 pub fn put_rot(out: &mut [u8], at: usize, word: &[u8], a: u32, amount: i16) -> usize
     requires { ⌜ at + length (join tab (now word ∷ decimal a ∷ amountText amount ∷ [])) ≤ length (now out) ⌝ }
     ensures { λ r. ⌜ Put (now (out .entry)) at (join tab (now (word .entry) ∷ decimal a ∷ amountText amount ∷ [])) r (now (out .exit)) ⌝ }
@@ -176,6 +184,13 @@ pub fn three_len(word: &[u8], a: u32, b: u32, c: u32) -> usize
     ensures { λ r. ⌜ Counted (join tab (now (word .entry) ∷ decimal a ∷ decimal b ∷ decimal c ∷ [])) 71 r ⌝ }
 {
     two_len(word, a, b) + 1 + number_len(c)
+}
+
+pub fn four_len(word: &[u8], a: u32, b: u32, c: u32, d: u32) -> usize
+    requires { ⌜ length (now word) ≤ 8 ⌝ }
+    ensures { λ r. ⌜ Counted (join tab (now (word .entry) ∷ decimal a ∷ decimal b ∷ decimal c ∷ decimal d ∷ [])) 92 r ⌝ }
+{
+    three_len(word, a, b, c) + 1 + number_len(d)
 }
 
 pub fn rot_len(word: &[u8], a: u32, amount: i16) -> usize

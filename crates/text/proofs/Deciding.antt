@@ -1,5 +1,5 @@
--- The first 4,397 bytes of a text decide its reading as a circuit. Assumes nothing.
--- Good lines among them take at most 4,369, so 28 bytes are left, or more: too many for a line of the form, whatever follows.
+-- The first 4,400 bytes of a text decide its reading as a circuit. Assumes nothing.
+-- Good lines among them take at most 4,372, so 28 bytes are left, or more: too many for a line of the form, whatever follows.
 use Prim.Native.Nat.{_*_, _≤_}
 use native.Mathlib.Decide.{decLe}
 use native.Mathlib.Omega.{arith}
@@ -51,8 +51,8 @@ module _ (h : Header) (rows : List Line) where
       (long-line h rows (rest ++ q) (omega arith))
       ∙ sym (unclosed rest (omega arith))
 
--- a header line of 44 bytes or more is refused, closed or not
-header-decides : (rest : Bytes) (more : Lines) → 44 ≤ length rest → readLines circuits (bytesBefore rest more) ≡ refused 1 1
+-- a header line of 56 bytes or more is refused, closed or not
+header-decides : (rest : Bytes) (more : Lines) → 56 ≤ length rest → readLines circuits (bytesBefore rest more) ≡ refused 1 1
 unfolding readLines
 header-decides rest (lines [] u) long = ap (readLines circuits) (before-rest rest u)
 header-decides rest (lines (q ∷ qs) u) long =
@@ -61,10 +61,10 @@ header-decides rest (lines (q ∷ qs) u) long =
     ∙ ap (λ (j : Judgement Header). at 1 j (λ h. afterRows circuits h [] (lines qs u))) (long-header (rest ++ q) (omega arith))
 
 -- ---- the whole text
-decide : (s t : Bytes) → length s ≡ 4397 → (l : Lines) → linesOf s ≡ l → readText circuitContext (s ++ t) ≡ readText circuitContext s
+decide : (s t : Bytes) → length s ≡ 4400 → (l : Lines) → linesOf s ≡ l → readText circuitContext (s ++ t) ≡ readText circuitContext s
 unfolding textOf
 decide s t long (lines qs rest) e =
-    let whole : length (textOf qs ++ rest) ≡ 4397 = ap (λ (l : Lines). length (wholeText l)) (sym e) ∙ ap length (text-lines s) ∙ long in
+    let whole : length (textOf qs ++ rest) ≡ 4400 = ap (λ (l : Lines). length (wholeText l)) (sym e) ∙ ap length (text-lines s) ∙ long in
     let parts = length-append (textOf qs) rest in
     first-decide circuits s t e
     (λ none. let nothing = ap (λ (ps : List Bytes). length (textOf ps)) none in header-decides rest (linesOf t) (omega arith))
@@ -81,10 +81,10 @@ decide s t long (lines qs rest) e =
     let line = text-length p ps in
     rest-decides h rows rest (linesOf t) (omega arith))
 
-pub decided : (s : Bytes) → readText circuitContext s ≡ readText circuitContext (take 4397 s)
+pub decided : (s : Bytes) → readText circuitContext s ≡ readText circuitContext (take 4400 s)
 decided s =
-    elim (decLe (length s) 4397) [
-      | yes all ↦ ap (readText circuitContext) (sym (take-all 4397 s all))
-      | no long ↦ ap (readText circuitContext) (sym (take-append-drop 4397 s))
-          ∙ decide (take 4397 s) (drop 4397 s) (length-take-le 4397 s (omega arith)) (linesOf (take 4397 s)) refl
+    elim (decLe (length s) 4400) [
+      | yes all ↦ ap (readText circuitContext) (sym (take-all 4400 s all))
+      | no long ↦ ap (readText circuitContext) (sym (take-append-drop 4400 s))
+          ∙ decide (take 4400 s) (drop 4400 s) (length-take-le 4400 s (omega arith)) (linesOf (take 4400 s)) refl
     ]

@@ -22,8 +22,8 @@ use Rattle.model.proofs.Tests.{and-first, and-second, and-both, HeaderFacts, he
 use Rattle.model.proofs.Lists.{length-snoc}
 use Rattle.model.proofs.Formed.{LineFacts, line-facts, line-passes, well-header, well-lines}
 use Rattle.text.specs.declared.Context.{Context}
-use Rattle.text.specs.Files.{headerForm, lineForm, keptCount, beginsKept, tooMany, fewEnough, format, readText, fileText}
-use Rattle.text.proofs.WordLaws.{any-word}
+use Rattle.text.specs.Files.{headerWord, headerForm, lineForm, keptCount, beginsKept, tooMany, fewEnough, format, readText, fileText}
+use Rattle.text.proofs.WordLaws.{header-letters, any-word}
 use Rattle.text.proofs.FormLaws.{header-law, header-forth, line-law, line-forth, begins-kept}
 
 -- ---- kept lines are counted line by line
@@ -105,12 +105,12 @@ module _ (c : Context) where
 
   -- ---- the format is lawful, and reads back what passes
   pub lawful : LawfulFormat (format c)
-  lawful = record { header = header-law (c .grammar); line = line-law }
+  lawful = record { header = header-law (headerWord (c .grammar)) (header-letters (c .grammar)); line = line-law }
 
   reads-back : c .limit ≤ 1792 → ReadsBack (format c)
   reads-back most =
       record {
-        header = λ h t. header-forth (c .grammar) h (t .0);
+        header = λ h t. header-forth (headerWord (c .grammar)) (header-letters (c .grammar)) h (t .0);
         line = λ h done x t n.
             let facts = line-tests (c .grammar) h done x (n .passes) in
             let few = has-room done (lineForm .text x) (n .room) .few in

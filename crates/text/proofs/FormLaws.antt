@@ -3,50 +3,95 @@ use Prim.Native.Nat.{ℕ, _≤_}
 use native.Mathlib.Omega.{arith}
 use mathlib.Core.Path.{_≡_, refl, ap, _∙_}
 use mathlib.Core.Bool.{Bool, false}
-use mathlib.Core.List.{List, []}
+use mathlib.Core.List.{List, [], _∷_, _++_}
 use mathlib.Core.Option.{Option, none, some}
 use lib.Dec.{T}
-use lib.IntN.{ℤ}
+use lib.IntN.{ℤ, pos}
 use lib.ListN.{length, getD}
 use Rattle.fields.specs.Pieces.{Bytes}
 use Rattle.rows.specs.Fields.{Holds, operand, ranged, upToTop, amount}
-use Rattle.rows.specs.Forms.{titled, named, worded}
-use Rattle.rows.proofs.FieldLaws.{Held, number, Fields, no-field, field, AtMost, Bounded, allSmall, all-bounded, all-short}
-use Rattle.rows.proofs.FormLaws.{LawfulForm, said-fields, titled-back, titled-law, titled-forth, worded-back, worded-law, worded-forth, made-law, made-forth}
-use Rattle.model.specs.declared.Grammar.{Grammar}
+use Rattle.rows.specs.Forms.{Form, saidText, titled, either, named, worded}
+use Rattle.rows.proofs.FieldLaws.{Held, number, Fields, no-field, field, AtMost, Bounded, fields-length, allSmall, all-bounded, all-short}
+use Rattle.rows.proofs.FormLaws.{LawfulForm, Letters, said-fields, titled-back, titled-law, titled-forth, titled-fewer, either-back, either-law, either-first, either-second, worded-back, worded-law, worded-forth, made-law, made-forth}
 use Rattle.model.specs.declared.Grammar.the-variants.{Circuit, Schedule}
 use Rattle.model.specs.declared.Word.{Word}
 use Rattle.model.specs.declared.Header.{Header}
+use Rattle.model.specs.declared.Headroom.{Headroom}
+use Rattle.model.specs.declared.Headroom.the-variants.{None, Given}
 use Rattle.model.specs.declared.Line.{Line}
-use Rattle.model.specs.Scales.{headerFields, headerNumbers, headerInRange}
+use Rattle.model.specs.Scales.{threeFields, headerFields, headroomNumbers, headerNumbers, headerInRange}
 use Rattle.model.specs.Words.{entry, words, hasWord, operandsAmong}
 use Rattle.model.specs.Files.{said, lineOf, wordOf, rowOf, isWord, operands, inRange, isUsable, kindAt, everyUsable}
-use Rattle.model.proofs.Tests.{and-first, and-second, HeaderFacts}
+use Rattle.model.proofs.Tests.{and-first, and-second, Within, HeadroomFacts, HeaderFacts, header-facts}
 use Rattle.model.proofs.EveryWord.{every-word, line-said}
 use Rattle.model.proofs.Formed.{usable-below}
-use Rattle.text.specs.Files.{headerWord, headerOf, headerForm, vocabulary, lineForm, beginsKept}
-use Rattle.text.proofs.WordLaws.{word-letters, header-letters, named-word, said-held, said-line}
+use Rattle.text.specs.Files.{headerOf, headerUnder, vocabulary, lineForm, beginsKept}
+use Rattle.text.proofs.WordLaws.{word-letters, named-word, said-held, said-line}
 
 -- ---- the header line
-pub header-held : (h : Header) → Fields Held headerFields (headerNumbers h)
-header-held h = field (number (h .factor)) (field (number (h .waterline)) (field (number (h .top)) no-field))
+-- the fields of three numbers, and of four
+abbrev headroomFields : Headroom → List Holds
+headroomFields None = []
+headroomFields (Given bits) = ranged 1 60 ∷ []
 
-pub header-bounded : (h : Header) → T (headerInRange h) → Fields (Bounded 0 0) headerFields (headerNumbers h)
-header-bounded h r = all-bounded 0 0 0 (omega arith) (header-held h) (field tt (field tt (field tt no-field))) r
+abbrev pub fieldsWith : Headroom → List Holds
+fieldsWith given = threeFields ++ headroomFields given
 
-pub header-made : {ns : List ℤ} → Fields Held headerFields ns → headerNumbers (headerOf ns) ≡ ns
-header-made (field (number f) (field (number w) (field (number l) no-field))) = refl
+pub header-bounded : (h : Header) → HeaderFacts h → Fields (Bounded 0 0) (fieldsWith (h .headroom)) (headerNumbers h)
+header-bounded h facts = field (one (facts .factor)) (field (one (facts .waterline)) (field (one (facts .top)) (last (h .headroom) (facts .headroom))))
+  where
+    one : {n : ℕ} → Within 1 60 n → Bounded 0 0 (ranged 1 60) (pos n)
+    one {n} w = record { held = number n; bound = w .most }
 
-module _ (g : Grammar) where
-  pub header-law : LawfulForm (headerForm g)
+    last : (given : Headroom) → HeadroomFacts given → Fields (Bounded 0 0) (headroomFields given) (headroomNumbers given)
+    last None f = no-field
+    last (Given bits) f = field (one f) no-field
+
+header-held : (h : Header) → Fields Held (fieldsWith (h .headroom)) (headerNumbers h)
+header-held h = field (number (h .factor)) (field (number (h .waterline)) (field (number (h .top)) (last (h .headroom))))
+  where
+    last : (given : Headroom) → Fields Held (headroomFields given) (headroomNumbers given)
+    last None = no-field
+    last (Given bits) = field (number bits) no-field
+
+header-back : (h : Header) → headerOf (headerNumbers h) ≡ h
+header-back h = go (h .headroom) refl
+  where
+    go : (given : Headroom) → h .headroom ≡ given → headerOf (headerNumbers h) ≡ h
+    go None e = rw e
+    go (Given bits) e = rw e
+
+pub three-made : {ns : List ℤ} → Fields Held threeFields ns → headerNumbers (headerOf ns) ≡ ns
+three-made (field (number f) (field (number w) (field (number l) no-field))) = refl
+
+pub four-made : {ns : List ℤ} → Fields Held headerFields ns → headerNumbers (headerOf ns) ≡ ns
+four-made (field (number f) (field (number w) (field (number l) (field (number b) no-field)))) = refl
+
+module _ (word : Bytes) (are : Letters word) where
+  abbrev numbersForm : Form (List ℤ)
+  numbersForm = either (titled word threeFields) (titled word headerFields)
+
+  numbers-made : (p : Bytes) (ns : List ℤ) → numbersForm .reads p ≡ some ns → headerNumbers (headerOf ns) ≡ ns
+  numbers-made p ns e =
+      either-back (titled word threeFields) (titled word headerFields) p e (λ ms. headerNumbers (headerOf ms) ≡ ms)
+      (λ ms q. three-made (titled-back word threeFields p q .held)) (λ ms q. four-made (titled-back word headerFields p q .held))
+
+  pub header-law : LawfulForm (headerUnder word)
   header-law =
-      made-law headerOf headerNumbers (titled (headerWord g) headerFields) (λ p ns e. header-made (titled-back (headerWord g) headerFields p e .held))
-      (titled-law (headerWord g) headerFields (header-letters g))
+      made-law headerOf headerNumbers numbersForm numbers-made
+      (either-law (titled word threeFields) (titled word headerFields) (λ ns. refl) (titled-law word threeFields are) (titled-law word headerFields are))
 
-  pub header-forth : (h : Header) → T (headerInRange h) → headerForm g .reads (headerForm g .text h) ≡ some h
-  header-forth h r =
-      made-forth headerOf headerNumbers (titled (headerWord g) headerFields) h refl
-      (titled-forth (headerWord g) headerFields (header-letters g) (header-held h) (all-short 0 0 tt (header-bounded h r)))
+  numbers-forth : (given : Headroom) {ns : List ℤ} → Fields Held (fieldsWith given) ns → Fields (Bounded 0 0) (fieldsWith given) ns
+      → numbersForm .reads (saidText word ns) ≡ some ns
+  numbers-forth None {ns} held bounded =
+      either-first (titled word threeFields) (titled word headerFields) (saidText word ns) (titled-forth word threeFields are held (all-short 0 0 tt bounded))
+  numbers-forth (Given bits) {ns} held bounded =
+      let four = fields-length held in
+      either-second (titled word threeFields) (titled word headerFields) (saidText word ns) (titled-fewer word threeFields are ns (omega arith))
+      (titled-forth word headerFields are held (all-short 0 0 tt bounded))
+
+  pub header-forth : (h : Header) → T (headerInRange h) → headerUnder word .reads (headerUnder word .text h) ≡ some h
+  header-forth h r = made-forth headerOf headerNumbers numbersForm h (header-back h) (numbers-forth (h .headroom) (header-held h) (header-bounded h (header-facts h r)))
 
 -- ---- a line
 pub line-law : LawfulForm lineForm

@@ -1,4 +1,4 @@
--- How long the lines of a circuit are: 27 bytes if of the form, 16 if good; and so of its header. Assumes nothing.
+-- How long the lines of a circuit are: 27 bytes if of the form, 16 if good; and its header: 55 and 19. Assumes nothing.
 use Prim.Native.Nat.{ℕ, _+_, _*_, _≤_}
 use native.Mathlib.Omega.{arith}
 use mathlib.Core.Path.{_≡_, refl, sym, ap, _∙_, subst}
@@ -7,27 +7,30 @@ use mathlib.Core.List.{List}
 use mathlib.Core.Option.{Option, none, some}
 use borrow.Author.Tests.{lt-leb}
 use lib.Dec.{T, leb, leb→le, nleb→lt}
+use lib.IntN.{ℤ}
 use lib.ListN.{length}
 use Rattle.fields.specs.Pieces.{Bytes}
 use Rattle.fields.specs.Numbers.{decimalIn}
-use Rattle.rows.specs.Forms.{titled, worded}
+use Rattle.rows.specs.Forms.{saidText, titled, either, worded}
 use Rattle.rows.specs.Rows.{Judgement, bad, formed, Format, readHeader, readLine}
-use Rattle.rows.proofs.FieldLaws.{allSmall}
-use Rattle.rows.proofs.FormLaws.{titled-back, worded-back, made-back}
+use Rattle.rows.proofs.FieldLaws.{Fields, Bounded, allSmall}
+use Rattle.rows.proofs.FormLaws.{titled-back, either-back, worded-back, made-back}
 use Rattle.rows.proofs.LengthLaws.{widths, said-width}
 use Rattle.model.specs.declared.Grammar.the-variants.{Circuit}
 use Rattle.model.specs.declared.Header.{Header}
+use Rattle.model.specs.declared.Headroom.{Headroom}
+use Rattle.model.specs.declared.Headroom.the-variants.{None, Given}
 use Rattle.model.specs.declared.Line.{Line}
 use Rattle.model.specs.declared.Word.{Word}
-use Rattle.model.specs.Scales.{headerFields, headerNumbers}
+use Rattle.model.specs.Scales.{threeFields, headerFields, headerNumbers}
 use Rattle.model.specs.Words.{entry}
 use Rattle.model.specs.Files.{said, lineOf, wordOf, rowOf, isWord, lineTests}
-use Rattle.model.proofs.Tests.{HeaderFacts, header-passes}
+use Rattle.model.proofs.Tests.{HeaderFacts}
 use Rattle.model.proofs.EveryWord.{every-word}
 use Rattle.model.proofs.Formed.{LineFacts}
 use Rattle.text.specs.Files.{headerWord, headerForm, headerOf, vocabulary, lineForm, keptCount, beginsKept, tooMany, circuitContext, format}
 use Rattle.text.proofs.WordLaws.{word-of, said-line}
-use Rattle.text.proofs.FormLaws.{header-bounded, line-bounded}
+use Rattle.text.proofs.FormLaws.{fieldsWith, header-bounded, line-bounded}
 use Rattle.text.proofs.FileLaws.{kept-most}
 
 abbrev pub circuits : Format Header Line
@@ -95,15 +98,22 @@ good-length h facts before few x f =
     omega (arith, line-width h facts before few x f)
 
 -- ---- the header
-pub header-length : (h : Header) → HeaderFacts h → length (headerForm Circuit .text h) ≤ 16
+pub header-length : (h : Header) → HeaderFacts h → length (headerForm Circuit .text h) ≤ 19
 unfolding decimalIn
-header-length h f = let long = said-width 0 0 (headerWord Circuit) tt (header-bounded h (header-passes h f)) in omega arith
+header-length h f = go (h .headroom) (header-bounded h f)
+  where
+    go : (given : Headroom) {ns : List ℤ} → Fields (Bounded 0 0) (fieldsWith given) ns → length (saidText (headerWord Circuit) ns) ≤ 19
+    go None b = let long = said-width 0 0 (headerWord Circuit) tt b in omega arith
+    go (Given bits) b = let long = said-width 0 0 (headerWord Circuit) tt b in omega arith
 
-pub long-header : (p : Bytes) → 44 ≤ length p → readHeader circuits p ≡ bad 1
+pub long-header : (p : Bytes) → 56 ≤ length p → readHeader circuits p ≡ bad 1
 long-header p long = go (headerForm Circuit .reads p) refl
   where
     go : (o : Option Header) → headerForm Circuit .reads p ≡ o → formed o (circuits .headerTests) ≡ bad 1
     go none e = refl
     go (some h) e =
-        absurd (made-back headerOf headerNumbers (titled (headerWord Circuit) headerFields) p e (λ h. ⊥)
-        (λ ns q. let few = titled-back (headerWord Circuit) headerFields p q .few in omega arith))
+        let three = titled (headerWord Circuit) threeFields in
+        let four = titled (headerWord Circuit) headerFields in
+        absurd (made-back headerOf headerNumbers (either three four) p e (λ h. ⊥)
+        (λ ns q. either-back three four p q (λ ms. ⊥) (λ ms r. let few = titled-back (headerWord Circuit) threeFields p r .few in omega arith)
+        (λ ms r. let few = titled-back (headerWord Circuit) headerFields p r .few in omega arith)))

@@ -1,4 +1,4 @@
--- A text has at most 72 bytes a line, whatever numbers its lines have. Assumes nothing.
+-- A text has at most 72 bytes a line and 97 in its header line, whatever numbers these have. Assumes nothing.
 use Prim.Native.Nat.{ℕ, _+_, _*_, _≤_}
 use native.Mathlib.Omega.{arith}
 use mathlib.Core.Bool.{_&&_}
@@ -14,8 +14,10 @@ use Rattle.rows.specs.Rows as Rows
 use Rattle.rows.proofs.FieldLaws.{fields-length}
 use Rattle.rows.proofs.LengthLaws as Lengths
 use Rattle.rows.proofs.LengthLaws.{said-most, text-length}
+use Rattle.model.specs.declared.Headroom.{Headroom}
+use Rattle.model.specs.declared.Headroom.the-variants.{None, Given}
 use Rattle.model.specs.declared.Line.{Line}
-use Rattle.model.specs.Scales.{headerNumbers}
+use Rattle.model.specs.Scales.{headroomNumbers, headerNumbers}
 use Rattle.model.specs.Words.{entry}
 use Rattle.model.specs.Files.{File, wordOf, rowOf, said}
 use Rattle.model.proofs.Tests.{and-first, and-second}
@@ -37,11 +39,16 @@ lines-most : (xs : List Line) → Each (λ p. length p ≤ 71) (map (lineForm .t
 lines-most [] = none
 lines-most (x ∷ xs) = one (line-most x) (lines-most xs)
 
--- ---- the file
-pub text-most : (word : Bytes) (f : File) → length word ≤ 8 → length (textUnder word f) ≤ 72 + 72 * length (f .lines) + 3
+-- ---- the file: a header has at most four numbers
+numbers-few : (given : Headroom) → length (headroomNumbers given) ≤ 1
+numbers-few None = omega arith
+numbers-few (Given bits) = omega arith
+
+pub text-most : (word : Bytes) (f : File) → length word ≤ 8 → length (textUnder word f) ≤ 97 + 72 * length (f .lines)
 unfolding Rows.fileText
 text-most word f short =
     let numbers = said-most word (headerNumbers (f .header)) in
+    let few = numbers-few (f .header .headroom) in
     let lines = Lengths.text-most 71 (lines-most (f .lines)) in
     let count = length-map (f .lines) (lineForm .text) in
     omega (arith, text-length (headerUnder word .text (f .header)) (map (lineForm .text) (f .lines)))

@@ -5,11 +5,11 @@ use Rattle.fields.specs.Numbers.{digitsOf, numberOf, amountOf, decimalIn}
 use Rattle.rows.specs.Fields.{readFields}
 use Rattle.rows.specs.Forms.{named}
 use Rattle.rows.specs.Lines.{linesOf, textOf}
-use Rattle.rows.specs.Rows.{readLine, rowsFrom, ended, readLines, readFile}
+use Rattle.rows.specs.Rows.{readLine, rowsFrom, ended, readLines, readFile, fileText}
 use Rattle.text.proofs.Statements.WorkedCases.{Statement}
 
 pub worked : Statement
-unfolding split join sameBytes digitsOf numberOf amountOf decimalIn readFields named linesOf textOf readLine rowsFrom ended readLines readFile
+unfolding split join sameBytes digitsOf numberOf amountOf decimalIn readFields named linesOf textOf readLine rowsFrom ended readLines readFile fileText
 worked =
     record {
       bytes-read = refl;
@@ -28,7 +28,18 @@ worked =
       top-over = refl;
       header-form-first = refl;
       header-two-numbers = refl;
-      header-four-numbers = refl;
+      headroom-least = refl;
+      headroom-most = refl;
+      headroom-zero = refl;
+      headroom-over = refl;
+      headroom-empty = refl;
+      headroom-zero-first = refl;
+      headroom-form-first = refl;
+      headroom-others-ranged = refl;
+      headroom-schedule = refl;
+      header-five-numbers = refl;
+      headroom-written = refl;
+      none-written = refl;
       header-then-line = refl;
       unclosed = refl;
       no-word = refl;

@@ -7,29 +7,35 @@ use lib.Dec.{leb}
 use lib.IntN.{ℤ}
 use lib.ListN.{length, getD}
 use Rattle.fields.specs.Pieces.{Bytes, tab, split}
-use Rattle.rows.specs.Forms.{Form, titled, Vocabulary, named, worded, made}
+use Rattle.rows.specs.Forms.{Form, titled, either, Vocabulary, named, worded, made}
 use Rattle.rows.specs.Rows as Rows
 use Rattle.rows.specs.Rows.{Reading, Format, readFile}
 use Rattle.model.specs.declared.Grammar.{Grammar}
 use Rattle.model.specs.declared.Grammar.the-variants.{Circuit, Schedule}
 use Rattle.model.specs.declared.Header.{Header}
+use Rattle.model.specs.declared.Headroom.{Headroom}
+use Rattle.model.specs.declared.Headroom.the-variants.{None, Given}
 use Rattle.model.specs.declared.Line.{Line}
 use Rattle.model.specs.declared.Word.{Word}
-use Rattle.model.specs.Scales.{headerFields, headerNumbers, headerInRange}
+use Rattle.model.specs.Scales.{threeFields, headerFields, headerNumbers, headerInRange}
 use Rattle.model.specs.Words.{ascii, entry, words, hasWord}
 use Rattle.model.specs.Files.{File, limit, nth, said, lineOf, isWord, lineTests}
 use Rattle.text.specs.declared.Context.{Context}
 
--- ---- the header line: "Circuit: header `circuit F W L`", "Schedule: header `schedule F W L`"
+-- ---- the header line: "Circuit: header `circuit F W L`", "Schedule: header `schedule F W L`", and H after L where it is given
 abbrev pub headerWord : Grammar → Bytes
 headerWord Circuit = ascii "circuit"
 headerWord Schedule = ascii "schedule"
 
+-- document 02, Job 3: "three numbers mean none"
+abbrev pub headroomOf : List ℤ → Headroom
+headroomOf ns = cond (leb (length ns) 3) None (Given (nth ns 3))
+
 abbrev pub headerOf : List ℤ → Header
-headerOf ns = record { factor = nth ns 0; waterline = nth ns 1; top = nth ns 2 }
+headerOf ns = record { factor = nth ns 0; waterline = nth ns 1; top = nth ns 2; headroom = headroomOf ns }
 
 abbrev pub headerUnder : Bytes → Form Header
-headerUnder word = made headerOf headerNumbers (titled word headerFields)
+headerUnder word = made headerOf headerNumbers (either (titled word threeFields) (titled word headerFields))
 
 abbrev pub headerForm : Grammar → Form Header
 headerForm g = headerUnder (headerWord g)

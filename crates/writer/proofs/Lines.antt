@@ -75,10 +75,10 @@ pub record Counting (records : List (List ℕ)) (count first total i : ℕ) : Ty
   pub all : length records ≡ 1792
   pub most : i ≤ count
   pub sum : total ≡ first + length (textTo records i)
-  pub bounded : total ≤ 72 + i * 72
+  pub bounded : total ≤ 93 + i * 72
 
 pub counting-start :
-    (records : List (List ℕ)) (count first : ℕ) (header : Bytes) → count ≤ 1792 → length records ≡ 1792 → Counted header 72 first →
+    (records : List (List ℕ)) (count first : ℕ) (header : Bytes) → count ≤ 1792 → length records ≡ 1792 → Counted header 93 first →
     Counting records count first first 0
 counting-start records count first header few all c =
     record { few = few; all = all; most = omega arith; sum = omega (arith, ap length no-text); bounded = omega (arith, c .bounded) }
@@ -98,7 +98,7 @@ counting-more records count first total i r x c h here line =
 
 pub counting-done :
     (word : Bytes) (h : Header) (records : List (List ℕ)) (count first total i : ℕ) → Counting records count first total i → count ≤ i →
-    Counted (headerOf word h) 72 first → Counted (textUnder word (fileOf (held h records count))) 129096 total
+    Counted (headerOf word h) 93 first → Counted (textUnder word (fileOf (held h records count))) 129117 total
 counting-done word h records count first total i c l header =
     let all : i ≡ count = omega (arith, c .most) in
     record { counted = omega (arith, rw all at (c .sum), header .counted, whole-length word h records count); bounded = omega (arith, c .bounded, c .few, c .most) }

@@ -1,6 +1,7 @@
 // Writes the file that a table holds as text into a buffer that is lent, and says beforehand how long the text is.
 // A function put_.. writes from place `at` on and returns the place past what it wrote; one .._len says how many bytes that is.
 use model::Header;
+use model::Headroom;
 use model::Line;
 use tables::Record;
 ghost use mathlib.Core.Path.{_≡_};
@@ -32,20 +33,59 @@ fn line_len(line: Line) -> usize
     linefields::fields_len(line) + 1
 }
 
-// ---- the header line: a word and three numbers
+// ---- the header line: a word and three numbers, and the headroom where it is given; then the line feed
+fn put_header_fields(out: &mut [u8], at: usize, word: &[u8], header: Header) -> usize
+    requires { ⌜ at + length (headerUnder (now word) .text header) ≤ length (now out) ⌝ }
+    ensures { λ r. ⌜ Put (now (out .entry)) at (headerUnder (now (word .entry)) .text header) r (now (out .exit)) ⌝ }
+{
+    let given = header.headroom;
+    match given {
+        Headroom::None => spelling::put_three(
+            out,
+            at,
+            word,
+            header.factor,
+            header.waterline,
+            header.top,
+        ),
+        Headroom::Given(bits) => spelling::put_four(
+            out,
+            at,
+            word,
+            header.factor,
+            header.waterline,
+            header.top,
+            bits,
+        ),
+    }
+}
+
+fn header_fields_len(word: &[u8], header: Header) -> usize
+    requires { ⌜ length (now word) ≤ 8 ⌝ }
+    ensures { λ r. ⌜ Counted (headerUnder (now (word .entry)) .text header) 92 r ⌝ }
+{
+    let given = header.headroom;
+    match given {
+        Headroom::None => spelling::three_len(word, header.factor, header.waterline, header.top),
+        Headroom::Given(bits) => {
+            spelling::four_len(word, header.factor, header.waterline, header.top, bits)
+        }
+    }
+}
+
 fn put_header(out: &mut [u8], at: usize, word: &[u8], header: Header) -> usize
     requires { ⌜ at + length (textOf (headerUnder (now word) .text header ∷ [])) ≤ length (now out) ⌝ }
     ensures { λ r. ⌜ Put (now (out .entry)) at (textOf (headerUnder (now (word .entry)) .text header ∷ [])) r (now (out .exit)) ⌝ }
 {
-    let next = spelling::put_three(out, at, word, header.factor, header.waterline, header.top);
+    let next = put_header_fields(out, at, word, header);
     spelling::put_byte(out, next, b'\n')
 }
 
 fn header_len(word: &[u8], header: Header) -> usize
     requires { ⌜ length (now word) ≤ 8 ⌝ }
-    ensures { λ r. ⌜ Counted (textOf (headerUnder (now (word .entry)) .text header ∷ [])) 72 r ⌝ }
+    ensures { λ r. ⌜ Counted (textOf (headerUnder (now (word .entry)) .text header ∷ [])) 93 r ⌝ }
 {
-    spelling::three_len(word, header.factor, header.waterline, header.top) + 1
+    header_fields_len(word, header) + 1
 }
 
 // ---- the line of a refusal
@@ -58,12 +98,12 @@ pub fn put_refused(out: &mut [u8], at: usize, number: u32, place: u32) -> usize
 }
 
 // ---- the file under a header word
-// How long the text is: at most 72 bytes for each of 1,793 lines.
+// How long the text is: at most 93 bytes for the header line, and 72 for each of 1,792 lines.
 pub fn file_len<'a>(word: &'a [u8], header: Header, records: &'a [Record], count: usize) -> usize
     requires { ⌜ length (now word) ≤ 8 ⌝ }
     requires { ⌜ length (now records) ≡ 1792 ⌝ }
     requires { ⌜ count ≤ 1792 ⌝ }
-    ensures { λ r. ⌜ Counted (textUnder (now (word .entry)) (fileOf (held header (now (records .entry)) count))) 129096 r ⌝ }
+    ensures { λ r. ⌜ Counted (textUnder (now (word .entry)) (fileOf (held header (now (records .entry)) count))) 129117 r ⌝ }
 {
     let mut total = header_len(word, header);
     let mut i: usize = 0;

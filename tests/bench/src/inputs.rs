@@ -102,9 +102,15 @@ pub fn catalogue_circuit() -> Vec<u8> {
     text.into_bytes()
 }
 
-/// The longest circuit of all: nothing but constants of ten digits.
+/// The longest circuit of all, of 4,372 bytes: a header with an H, and nothing but constants of ten digits.
 pub fn longest_circuit() -> Vec<u8> {
-    format!("circuit\t60\t60\t60\n{}", "const\t4294967295\n".repeat(256)).into_bytes()
+    format!("circuit\t60\t60\t60\t60\n{}", "const\t4294967295\n".repeat(256)).into_bytes()
+}
+
+/// The same file with an H of 5, which detune factors up to 12 ask for.
+pub fn with_headroom(text: &[u8]) -> Vec<u8> {
+    let end = text.iter().position(|&byte| byte == b'\n').expect("a header");
+    [&text[..end], b"\t5", &text[end..]].concat()
 }
 
 /// A schedule of so many lines that keeps the rules: the first seventh is kept, the rest are upscales that nobody uses.

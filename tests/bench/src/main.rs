@@ -15,7 +15,7 @@ use std::time::Instant;
 
 const ROOM: usize = 131_072;
 /// There are at least so many calls, so that no run passes on missing inputs.
-const LEAST_CALLS: usize = 130;
+const LEAST_CALLS: usize = 145;
 /// A measurement is the shortest of so many runs, each of about so many nanoseconds: a short run is seldom disturbed.
 const RUNS: usize = 150;
 const RUN_TIME: f64 = 150_000.0;
@@ -143,6 +143,8 @@ fn other_conversions() -> Vec<Conversion> {
     for lines in [112, 224, 448, 896, 1792] {
         list.push(turned(format!("{lines} lines"), inputs::long_schedule(lines).1).expect("a schedule that keeps the rules"));
     }
+    let longest = inputs::with_headroom(&inputs::long_schedule(1792).1);
+    list.push(turned("with H, 1792 lines".into(), longest).expect("a schedule that keeps the rules"));
     list.push(listing("100 in and 846 ds", inputs::downscales(100, 846)));
     list.push(listing("100 in and 847 ds, refused", inputs::downscales(100, 847)));
     for (name, last) in [("a damaged last line", "x/"), ("a broken rule in the last line", "us 0 101/")] {
@@ -170,11 +172,15 @@ fn full_files() -> Vec<Input> {
         full.push(planned(format!("circuit of {lines} lines"), inputs::long_circuit(lines)));
     }
     full.push(planned("catalogue codes, 256 lines".into(), inputs::catalogue_circuit()));
+    full.push(planned("with H, circuit of 256 lines".into(), inputs::with_headroom(&inputs::long_circuit(256))));
     full.push(planned("256 constants".into(), inputs::longest_circuit()));
     for lines in [112, 224, 448, 896, 1792] {
         let (circuit, schedule) = inputs::long_schedule(lines);
         full.push(Input { name: format!("schedule of {lines} lines"), circuit, schedule });
     }
+    let (circuit, schedule) = inputs::long_schedule(1792);
+    let [circuit, schedule] = [circuit, schedule].map(|text| inputs::with_headroom(&text));
+    full.push(Input { name: "with H, schedule of 1792 lines".into(), circuit, schedule });
     full
 }
 

@@ -46,6 +46,14 @@ impl Big {
         Big::new(!self.negative, self.limbs.clone())
     }
 
+    pub fn abs(&self) -> Big {
+        Big::new(false, self.limbs.clone())
+    }
+
+    pub fn two_to(bits: usize) -> Big {
+        Big::from_i64(1).shift_left(bits)
+    }
+
     pub fn add(&self, other: &Big) -> Big {
         if self.negative == other.negative {
             return Big::new(self.negative, add_limbs(&self.limbs, &other.limbs));
@@ -154,7 +162,7 @@ mod tests {
     fn small_numbers() {
         let samples = [0, 1, -1, 2, -7, 65_535, -65_536, 4_294_967_295, -4_294_967_296, 99_999_999_999];
         for x in samples {
-            assert_eq!(big(x).neg(), big(-x));
+            assert_eq!([big(x).neg(), big(x).abs()], [big(-x), big(x.abs())]);
             for y in samples {
                 assert_eq!(big(x).add(&big(y)), big(x + y), "{x} + {y}");
                 assert_eq!(big(x).sub(&big(y)), big(x - y), "{x} - {y}");
@@ -184,7 +192,7 @@ mod tests {
             assert_eq!(x.add(&y).sub(&y), x);
             assert_eq!(x.mul(&y), y.mul(&x));
             assert_eq!(x.mul(&y.add(&z)), x.mul(&y).add(&x.mul(&z)));
-            assert_eq!(x.shift_left(70), x.mul(&big(1).shift_left(70)));
+            assert_eq!(x.shift_left(70), x.mul(&Big::two_to(70)));
             assert_eq!(x.compare(&y), y.compare(&x).reverse());
         }
     }

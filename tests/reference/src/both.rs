@@ -9,7 +9,7 @@ use crate::services::{self, Reply};
 /// Room that holds every result.
 pub const AMPLE: usize = 32_768;
 
-/// Room for what a schedule or listing is erased or converted to: a `ds` becomes two lines, each less than twice as long.
+/// Room for what a schedule or listing is erased or converted to: a `ds` becomes two lines, each at most twice as long.
 pub fn ample_for(text: &[u8]) -> usize {
     AMPLE.min(4 * text.len() + 64)
 }
@@ -43,6 +43,7 @@ pub struct Both {
     pub coverage: Coverage,
     pub searches: Searches,
     pub runs: Runs,
+    pub halves: Halves,
     pub trips: Trips,
 }
 
@@ -52,6 +53,9 @@ pub struct Searches {
     pub exists: u64,
     pub none: u64,
     pub gave_up: u64,
+    /// Those of the first two whose header has an H.
+    pub exists_with_headroom: u64,
+    pub none_with_headroom: u64,
 }
 
 impl Searches {
@@ -59,6 +63,8 @@ impl Searches {
         self.exists += other.exists;
         self.none += other.none;
         self.gave_up += other.gave_up;
+        self.exists_with_headroom += other.exists_with_headroom;
+        self.none_with_headroom += other.none_with_headroom;
     }
 }
 
@@ -73,6 +79,25 @@ impl Runs {
     pub fn add(&mut self, other: &Runs) {
         self.to_the_end += other.to_the_end;
         self.stopped += other.stopped;
+    }
+}
+
+/// Circuit lines that the scale machine ran in schedules with an H, by how near their numbers come to half the modulus.
+#[derive(Clone, Copy, Default)]
+pub struct Halves {
+    /// With circuit numbers below two to (H − 1) alone: what they hold is below half the modulus.
+    pub below: u64,
+    /// Of these, with a number of two to (H − 1) less one, where scale + H is F·level.
+    pub greatest: u64,
+    /// With a number of two to (H − 1) there, which is half the modulus.
+    pub reached: u64,
+}
+
+impl Halves {
+    pub fn add(&mut self, other: &Halves) {
+        self.below += other.below;
+        self.greatest += other.greatest;
+        self.reached += other.reached;
     }
 }
 
@@ -94,8 +119,8 @@ impl Trips {
 impl Both {
     /// `show` prints every call and the replies.
     pub fn new(random: Random, show: bool) -> Both {
-        let (searches, runs, trips) = (Searches::default(), Runs::default(), Trips::default());
-        Both { random, show, calls: 0, coverage: Coverage::default(), searches, runs, trips }
+        let (searches, runs, halves, trips) = (Searches::default(), Runs::default(), Halves::default(), Trips::default());
+        Both { random, show, calls: 0, coverage: Coverage::default(), searches, runs, halves, trips }
     }
 
     pub fn plan(&mut self, circuit: &[u8], room: usize) -> Result<Outcome, String> {

@@ -3,5 +3,6 @@
 pub mod damage;
 pub mod files;
 pub mod hand;
+mod headroom;
 pub mod limits;
 pub mod listings;

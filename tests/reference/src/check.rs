@@ -94,11 +94,11 @@ fn same_level(one: Standing, other: Standing) -> Result<(), u32> {
     }
 }
 
-/// "Every ciphertext or encoded constant has W ≤ scale ≤ F·level."
+/// "Every ciphertext or encoded constant has W ≤ scale ≤ F·level", H taken in.
 fn within_bounds(header: &Header, standing: Standing) -> Result<(), u32> {
     if standing.scale < header.waterline {
         Err(10)
-    } else if standing.scale > header.factor * standing.level {
+    } else if !header.has_room_for(standing.scale, standing.level) {
         Err(9)
     } else {
         Ok(())
@@ -172,6 +172,48 @@ mod tests {
         assert_eq!(rules("schedule 60 20 2/in/us 0 40/ms 1 1/add 0 2/"), Some((7, 5)));
         assert_eq!(rules("schedule 60 20 2/const 1/enc 0 19 2/"), Some((10, 3)));
         assert_eq!(rules("schedule 60 20 2/const 1/enc 0 61 1/"), Some((9, 3)));
+    }
+
+    /// "Each scale must satisfy scale + H ≤ F·level": at each kind of line that makes a scale or a level, just fitting and one bit more.
+    #[test]
+    fn scales_beside_the_headroom() {
+        for (shown, place) in [
+            ("schedule 60 20 1 N/in/", 2),
+            ("schedule 60 20 2 N/in/ms 0 1/", 3),
+            ("schedule 60 20 2 N/in/us 0 60/", 3),
+            ("schedule 60 20 2 N/in/us 0 60/neg 0/rs 1 1/rot 3 1/", 3),
+            ("schedule 60 20 2 N/in/us 0 40/mul 0 1/", 4),
+            ("schedule 60 20 1 N/const 7/enc 0 20 1/", 3),
+            ("schedule 60 20 2 N/const 7/enc 0 20 1/in/enc 0 80 2/", 3),
+            ("schedule 60 20 2 N/const 7/in/enc 0 80 2/", 4),
+        ] {
+            assert_eq!(rules(&shown.replace('N', "40")), None, "{shown}");
+            assert_eq!(rules(&shown.replace('N', "41")), Some((9, place)), "{shown}");
+            assert_eq!(rules(&shown.replace(" N", "")), None, "{shown}");
+        }
+        // 7, 8 and 10 do not ask for H, and come before.
+        assert_eq!(rules("schedule 60 20 2 60/in/us 0 39/rs 1 1/"), Some((10, 4)));
+        assert_eq!(rules("schedule 60 20 3 60/in/ms 0 1/mul 0 1/"), Some((7, 4)));
+        assert_eq!(rules("schedule 60 20 3 60/in/us 0 1/add 0 1/"), Some((8, 4)));
+    }
+
+    /// H is a number of the header: the circuit of another H, or of none, is another circuit, at place 1 and before every rule.
+    #[test]
+    fn another_headroom() {
+        let checked = |[circuit, schedule]: [&str; 2], lines: &str| {
+            let circuit = file(&format!("circuit 60 20 1{circuit}/in/"), Reading::Circuit);
+            let schedule = file(&format!("schedule 60 20 1{schedule}/in/{lines}"), Reading::Schedule);
+            check(&circuit, &schedule).err().map(|refusal| (refusal.number, refusal.place))
+        };
+        for headers in [["", " 5"], [" 5", ""], [" 5", " 6"], [" 1", ""], ["", " 1"], [" 60", " 6"]] {
+            assert_eq!(checked(headers, ""), Some((12, 1)), "{headers:?}");
+            assert_eq!(checked(headers, "us 0 60/neg 0/"), Some((12, 1)), "{headers:?}");
+        }
+        for headers in [["", ""], [" 5", " 5"], [" 40", " 40"]] {
+            assert_eq!(checked(headers, ""), None, "{headers:?}");
+            assert_eq!(checked(headers, "neg 0/"), Some((12, 3)), "{headers:?}");
+        }
+        assert_eq!(checked([" 41", " 41"], ""), Some((9, 2)));
     }
 
     #[test]

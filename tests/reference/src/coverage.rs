@@ -3,11 +3,12 @@
 
 use crate::both::Call;
 use crate::cases::damage::POWERS;
-use crate::check::Standing;
+use crate::check::{self, Standing};
 use crate::library::Service;
+use crate::plan;
 use crate::rising;
 use crate::services::Reply;
-use crate::text::{file_of, File, Header, Line, Reading, CIRCUIT_LINES, KEPT_LINES, SCHEDULE_LINES};
+use crate::text::{file_of, File, Header, Line, Reading, ValueKind, CIRCUIT_LINES, KEPT_LINES, SCHEDULE_LINES};
 use std::ops::RangeInclusive;
 
 /// A file that is handed to a service.
@@ -20,6 +21,16 @@ enum Place {
     LeastLevel,
     FromRising,
     ToRising,
+}
+
+impl Place {
+    fn header_word(self) -> &'static [u8] {
+        match self {
+            Place::Plan | Place::CheckCircuit | Place::LeastLevel => b"circuit",
+            Place::CheckSchedule | Place::Erase | Place::ToRising => b"schedule",
+            Place::FromRising => b"rising",
+        }
+    }
 }
 
 const PLACES: [(Place, &str); 7] = [
@@ -44,6 +55,8 @@ const ALL: &[Place] = &[
 const CIRCUITS: &[Place] = &[Place::Plan, Place::CheckCircuit, Place::LeastLevel];
 const SCHEDULES: &[Place] = &[Place::CheckSchedule, Place::Erase, Place::ToRising];
 const LISTINGS: &[Place] = &[Place::FromRising];
+/// Whose best reserves are worked out.
+const PLANNED: &[Place] = &[Place::Plan, Place::LeastLevel];
 /// What has a schedule's grammar.
 const LONG: &[Place] = &[Place::CheckSchedule, Place::Erase, Place::FromRising, Place::ToRising];
 const RULED: &[Place] = &[Place::CheckSchedule, Place::FromRising, Place::ToRising];
@@ -98,14 +111,14 @@ const fn limit(name: &'static str, places: &'static [Place]) -> Row {
 }
 
 /// Replies stand at their numbers; the other rows are named below.
-const ROWS: [Row; 61] = [
+const ROWS: [Row; 85] = [
     reply("success", ALL),
     reply("1 text not of the form", ALL),
     reply("2 header number", ALL),
     reply("3 too many lines", ALL),
     reply("4 no usable line", ALL),
     reply("5 wrong kind", ALL),
-    reply("6 too few levels", &[Place::Plan, Place::LeastLevel]),
+    reply("6 too few levels", PLANNED),
     reply("7 levels differ", RULED),
     reply("8 scales differ", RULED),
     reply("9 above the modulus", RULED),
@@ -124,9 +137,11 @@ const ROWS: [Row; 61] = [
     limit("F = 1 | 0", ALL),
     limit("W = 1 | 0", ALL),
     limit("L = 1 | 0", ALL),
+    limit("H = 1 | 0", ALL),
     limit("F = 60 | 61", ALL),
     limit("W = 60 | 61", ALL),
     limit("L = 60 | 61", ALL),
+    limit("H = 60 | 61", ALL),
     limit("const 4294967295 | 4294967296", ALL),
     limit("rot by 32767 | 32768", ALL),
     limit("rot by -32767 | -32768", ALL),
@@ -135,8 +150,8 @@ const ROWS: [Row; 61] = [
     limit("rs by 60 | 61", LONG),
     limit("ms by 60 | 61", LONG),
     limit("field of 11 | 12 digits", ALL),
-    limit("4369 | 4370 circuit bytes", CIRCUITS),
-    limit("30482 | 30483 bytes", &[Place::CheckSchedule]),
+    limit("4372 | 4373 circuit bytes", CIRCUITS),
+    limit("30485 | 30486 bytes", &[Place::CheckSchedule]),
     limit("const 65535, 65536 read", ALL),
     limit("12 by const, low | high", &[Place::CheckCircuit]),
     limit("header + 2^16 | + 2^32", ALL),
@@ -159,7 +174,29 @@ const ROWS: [Row; 61] = [
     limit("1792 | 1793 lines converted", LISTINGS),
     limit("3 at ds: us fits | not it", LISTINGS),
     met("rule broken behind a 3", LISTINGS),
-    Row { name: "buffer enough | one short", class: Class::Buffer, sides: 2, places: WRITING },
+    reply("success with H", ALL),
+    limit("H empty, a fifth field refused", ALL),
+    limit("H 01, -1 refused", ALL),
+    limit("H of 11 | 12 digits", ALL),
+    limit("H + 2^16 | + 2^32", ALL),
+    limit("12 by H in file 1 | 2 alone", &[Place::CheckCircuit]),
+    met("12 by H in both", &[Place::CheckCircuit]),
+    reply("9 by H alone", RULED),
+    limit("in, W + H = F L | F L + 1", RULED),
+    limit("enc, S + H = F l | F l + 1", RULED),
+    limit("us, scale + H = F l | F l + 1", RULED),
+    limit("mul, scale + H = F l | F l + 1", RULED),
+    limit("ms, scale + H = F l | F l + 1", RULED),
+    limit("ds, W + F + H = F l | F l + 1", LISTINGS),
+    limit("best reserve H | H - 1, in", PLANNED),
+    limit("best reserve H | H - 1, mul", PLANNED),
+    limit("best reserve H | H - 1, by const", PLANNED),
+    met("6 by H alone", PLANNED),
+    met("least level higher by H", &[Place::LeastLevel]),
+    limit("no H, scale = F l | F l + 1", RULED),
+    limit("no H, best reserve 0 | -1", PLANNED),
+    Row { name: "with H, buffer enough | one short", class: Class::Buffer, sides: 2, places: WRITING },
+    Row { name: "no H, buffer enough | one short", class: Class::Buffer, sides: 2, places: WRITING },
 ];
 
 const MS: usize = 15;
@@ -170,44 +207,68 @@ const CIRCUIT_LIMIT: usize = 19;
 const SCHEDULE_LIMIT: usize = 20;
 const KEPT_LIMIT: usize = 21;
 const HEADER_LOW: usize = 22;
-const HEADER_HIGH: usize = 25;
-const CONSTANT: usize = 28;
-const ROTATION: usize = 29;
-const ROTATION_BACK: usize = 30;
-const UPSCALE: usize = 31;
-const ENCODED: usize = 32;
-const RESCALES: usize = 33;
-const MODSWITCHES: usize = 34;
-const DIGITS: usize = 35;
-const CIRCUIT_LENGTH: usize = 36;
-const SCHEDULE_LENGTH: usize = 37;
-const SIXTEEN_BITS: usize = 38;
-const ANOTHER_CONSTANT: usize = 39;
-const HEADER_WRAP: usize = 40;
-const OPERAND_WRAP: usize = 41;
-const ROTATION_WRAP: usize = 42;
-const UPSCALE_WRAP: usize = 43;
-const ENCODED_WRAP: usize = 44;
-const LEVEL_WRAP: usize = 45;
-const RESCALES_WRAP: usize = 46;
-const MODSWITCHES_WRAP: usize = 47;
-const LEVEL_ENDS: usize = 48;
-const LEVEL_PAST: usize = 49;
-const RISING_LEVEL_ENDS: usize = 50;
-const RISING_LEVEL_PAST: usize = 51;
-const DOWNSCALE: usize = 52;
-const DOWNSCALE_SCALE: usize = 53;
-const DOWNSCALE_MODULUS: usize = 54;
-const DOWNSCALE_LAST_LEVEL: usize = 55;
-const DOWNSCALE_WRAP: usize = 56;
-const CONVERTED: usize = 57;
-const CONVERTED_PART: usize = 58;
-const RULE_FIRST: usize = 59;
-const BUFFER: usize = 60;
+const HEADER_HIGH: usize = 26;
+const CONSTANT: usize = 30;
+const ROTATION: usize = 31;
+const ROTATION_BACK: usize = 32;
+const UPSCALE: usize = 33;
+const ENCODED: usize = 34;
+const RESCALES: usize = 35;
+const MODSWITCHES: usize = 36;
+const DIGITS: usize = 37;
+const CIRCUIT_LENGTH: usize = 38;
+const SCHEDULE_LENGTH: usize = 39;
+const SIXTEEN_BITS: usize = 40;
+const ANOTHER_CONSTANT: usize = 41;
+const HEADER_WRAP: usize = 42;
+const OPERAND_WRAP: usize = 43;
+const ROTATION_WRAP: usize = 44;
+const UPSCALE_WRAP: usize = 45;
+const ENCODED_WRAP: usize = 46;
+const LEVEL_WRAP: usize = 47;
+const RESCALES_WRAP: usize = 48;
+const MODSWITCHES_WRAP: usize = 49;
+const LEVEL_ENDS: usize = 50;
+const LEVEL_PAST: usize = 51;
+const RISING_LEVEL_ENDS: usize = 52;
+const RISING_LEVEL_PAST: usize = 53;
+const DOWNSCALE: usize = 54;
+const DOWNSCALE_SCALE: usize = 55;
+const DOWNSCALE_MODULUS: usize = 56;
+const DOWNSCALE_LAST_LEVEL: usize = 57;
+const DOWNSCALE_WRAP: usize = 58;
+const CONVERTED: usize = 59;
+const CONVERTED_PART: usize = 60;
+const RULE_FIRST: usize = 61;
+/// The rows of a header with an H.
+const HEADROOM: usize = 62;
+const HEADROOM_FORM: usize = 63;
+const HEADROOM_SIGN: usize = 64;
+const HEADROOM_DIGITS: usize = 65;
+const HEADROOM_WRAP: usize = 66;
+const HEADROOM_ALONE: usize = 67;
+const HEADROOM_DIFFERS: usize = 68;
+const HEADROOM_MODULUS: usize = 69;
+const HEADROOM_OF_IN: usize = 70;
+const HEADROOM_OF_ENC: usize = 71;
+const HEADROOM_OF_US: usize = 72;
+const HEADROOM_OF_MUL: usize = 73;
+const HEADROOM_OF_MS: usize = 74;
+const HEADROOM_OF_DOWNSCALE: usize = 75;
+const HEADROOM_OF_RESERVE: usize = 76;
+const HEADROOM_OF_PRODUCT: usize = 77;
+const HEADROOM_BY_CONSTANT: usize = 78;
+const HEADROOM_TOO_FEW: usize = 79;
+const HEADROOM_LEAST_LEVEL: usize = 80;
+/// The same bounds without an H, and buffers with one and without.
+const MODULUS: usize = 81;
+const RESERVE: usize = 82;
+const HEADROOM_BUFFER: usize = 83;
+const BUFFER: usize = 84;
 
-/// The longest circuit and the longest schedule that can be read: every line a `const` of ten digits.
-const CIRCUIT_BYTES: usize = 17 + 17 * CIRCUIT_LINES;
-const SCHEDULE_BYTES: usize = 18 + 17 * SCHEDULE_LINES;
+/// The longest circuit and the longest schedule that can be read: a header with an H, and every line a `const` of ten digits.
+const CIRCUIT_BYTES: usize = 20 + 17 * CIRCUIT_LINES;
+const SCHEDULE_BYTES: usize = 21 + 17 * SCHEDULE_LINES;
 
 /// The two sides of a limit.
 const TAKEN: usize = 0;
@@ -298,9 +359,57 @@ fn is_struck(line: &[u8]) -> bool {
     matches!(line.get(..2), Some(b"ms" | b"us" | b"rs" | b"en" | b"ds"))
 }
 
+/// The numbers of a header, as they are written.
+fn header_fields(text: &[u8]) -> Vec<&[u8]> {
+    line_at(text, 1).split(|&byte| byte == b'\t').skip(1).collect()
+}
+
 /// The top level in a header.
 fn top_level_of(text: &[u8]) -> u64 {
-    line_at(text, 1).rsplit(|&byte| byte == b'\t').next().and_then(number_of).unwrap_or(0)
+    header_fields(text).get(2).copied().and_then(number_of).unwrap_or(0)
+}
+
+/// Whether the header of a file that was read has an H.
+fn has_headroom(text: &[u8]) -> bool {
+    header_fields(text).len() == 4
+}
+
+fn is_header_number(field: &&[u8]) -> bool {
+    matches!(field, [b'1'..=b'9', ..]) && number_of(field).is_some_and(|number| number <= 60)
+}
+
+/// The row and side of a header that is refused with this number for its fourth field, or for a fifth; the first three are legal.
+fn headroom_fault(text: &[u8], header_word: &[u8], number: u32) -> Option<(usize, usize)> {
+    let fields = header_fields(text);
+    let is_whole = text.contains(&b'\n') && line_at(text, 1).split(|&byte| byte == b'\t').next() == Some(header_word);
+    if !is_whole || !fields.get(..3)?.iter().all(is_header_number) {
+        return None;
+    }
+    let is_number = |digits: &[u8]| !digits.is_empty() && digits.iter().all(u8::is_ascii_digit);
+    match (number, &fields[3..]) {
+        (1, [b""]) => Some((HEADROOM_FORM, 0)),
+        (1, [headroom, _]) if is_header_number(headroom) => Some((HEADROOM_FORM, 1)),
+        (1, [[b'0', digits @ ..]]) if is_number(digits) => Some((HEADROOM_SIGN, 0)),
+        (1, [[b'-', digits @ ..]]) if is_number(digits) => Some((HEADROOM_SIGN, 1)),
+        (1, [headroom]) if is_digits(headroom, 12) => Some((HEADROOM_DIGITS, REFUSED)),
+        (2, [headroom]) if is_digits(headroom, 11) => Some((HEADROOM_DIGITS, TAKEN)),
+        (2, [headroom]) => power_past(headroom, 1..=60).map(|power| (HEADROOM_WRAP, power)),
+        _ => None,
+    }
+}
+
+/// The row and side of two headers that differ in H alone.
+fn headroom_that_differs(circuit: &[u8], schedule: &[u8]) -> Option<(usize, usize)> {
+    let [one, other] = [circuit, schedule].map(header_fields);
+    if one.get(..3) != other.get(..3) {
+        return None;
+    }
+    match [one.len(), other.len()] {
+        [4, 3] => Some((HEADROOM_ALONE, 0)),
+        [3, 4] => Some((HEADROOM_ALONE, 1)),
+        [4, 4] => Some((HEADROOM_DIFFERS, TAKEN)),
+        _ => None,
+    }
 }
 
 /// The level in an `enc` line whose scale is inside its range.
@@ -359,9 +468,8 @@ impl Coverage {
                 if !is_reading(reply.number) || reply.file == 2 {
                     self.count_file(Place::CheckSchedule, 2, call.second, reply);
                 }
-                if reply.number == 12 && reply.place > 1 {
-                    let half = half_that_differs(call.first, call.second, reply.place);
-                    half.into_iter().for_each(|side| self.count(ANOTHER_CONSTANT, side, Place::CheckCircuit));
+                if reply.number == 12 {
+                    self.count_another(call.first, call.second, reply.place);
                 }
             }
         }
@@ -377,6 +485,15 @@ impl Coverage {
         }
     }
 
+    /// A schedule of another circuit: in what the two differ at this place.
+    fn count_another(&mut self, circuit: &[u8], schedule: &[u8], place: u32) {
+        let found = match place {
+            1 => headroom_that_differs(circuit, schedule),
+            _ => half_that_differs(circuit, schedule, place).map(|side| (ANOTHER_CONSTANT, side)),
+        };
+        found.into_iter().for_each(|(row, side)| self.count(row, side, Place::CheckCircuit));
+    }
+
     /// Counts a file that was read, or refused while it was read.
     fn count_file(&mut self, place: Place, file: u32, text: &[u8], reply: Reply) {
         if reply.number == 0 || reply.number == 13 || reply.file == file {
@@ -384,6 +501,10 @@ impl Coverage {
         }
         if !is_reading(reply.number) || reply.file > file || is_after_conversion(place, text, reply) {
             self.count_taken(place, text);
+            if has_headroom(text) && reply.number == 0 {
+                self.count(HEADROOM, TAKEN, place);
+            }
+            self.count_room(place, text, reply);
         } else {
             self.count_refused(place, text, reply);
         }
@@ -416,7 +537,7 @@ impl Coverage {
         let mut found = [[false; 2]; ROWS.len()];
         let mut lines = text.split(|&byte| byte == b'\n');
         let header = lines.next().unwrap_or_default().split(|&byte| byte == b'\t').skip(1);
-        for (number, field) in header.enumerate().take(3) {
+        for (number, field) in header.enumerate() {
             found[HEADER_LOW + number][TAKEN] = field == b"1";
             found[HEADER_HIGH + number][TAKEN] = field == b"60";
         }
@@ -452,6 +573,10 @@ impl Coverage {
             self.count(SCHEDULE_LENGTH, REFUSED, place);
         }
         self.count_wraps(place, text, reply);
+        if reply.place == 1 {
+            let fault = headroom_fault(text, place.header_word(), reply.number);
+            fault.into_iter().for_each(|(row, side)| self.count(row, side, place));
+        }
         match reply.number {
             1 if fields.iter().any(|field| is_digits(field, 12)) => self.count(DIGITS, REFUSED, place),
             2 | 4 | 11 if fields.iter().any(|field| is_digits(field, 11)) => self.count(DIGITS, TAKEN, place),
@@ -479,7 +604,8 @@ impl Coverage {
             _ => 1..=top_level_of(text),
         };
         let wraps = match reply.number {
-            2 => fields().filter_map(|field| power_past(field, 1..=60)).map(|power| (HEADER_WRAP, power)).collect(),
+            // H has a row of its own.
+            2 => fields().take(3).filter_map(|field| power_past(field, 1..=60)).map(|power| (HEADER_WRAP, power)).collect(),
             4 if reply.place > 2 => {
                 let last = u64::from(reply.place) - 3;
                 let row = if line.starts_with(b"ds") { DOWNSCALE_WRAP } else { OPERAND_WRAP };
@@ -489,6 +615,25 @@ impl Coverage {
             _ => Vec::new(),
         };
         wraps.into_iter().for_each(|(row, power)| self.count(row, power, place));
+    }
+
+    /// A file that was read whole: how near its scales or its best reserves come to their bounds.
+    fn count_room(&mut self, place: Place, text: &[u8], reply: Reply) {
+        let limits = match place {
+            Place::Plan => file_of(text, Reading::Circuit).map(|circuit| plan_limits(&circuit, reply)),
+            Place::LeastLevel => file_of(text, Reading::Circuit).map(|circuit| least_level_limits(&circuit, reply)),
+            Place::CheckSchedule if reply.number == 12 => return,
+            Place::CheckSchedule | Place::ToRising => {
+                file_of(text, Reading::Schedule).map(|schedule| scale_limits(&schedule, &check::standings(&schedule).0, reply))
+            }
+            Place::FromRising => {
+                file_of(text, Reading::Listing).map(|listing| scale_limits(&listing, &rising::standings(&listing), reply))
+            }
+            Place::CheckCircuit | Place::Erase => return,
+        };
+        let mut found = [[false; 2]; ROWS.len()];
+        limits.into_iter().flatten().for_each(|(row, side): (usize, usize)| found[row][side] = true);
+        self.count_found(&found, place);
     }
 
     /// A listing that was read whole: how near its downscales come to their bounds, and its conversion to the limit on lines.
@@ -545,14 +690,15 @@ impl Coverage {
         if reply.number == 0 && call.room > written.len() {
             self.written = Some((call.service, call.first.to_vec(), written.len()));
         }
+        let row = if has_headroom(call.first) { HEADROOM_BUFFER } else { BUFFER };
         if reply.number == 0 && call.room == written.len() {
-            self.count(BUFFER, TAKEN, place);
+            self.count(row, TAKEN, place);
         }
         let one_short = |(service, input, length): &(Service, Vec<u8>, usize)| {
             *service == call.service && *length == call.room + 1 && input == call.first
         };
         if reply.number == 13 && self.written.as_ref().is_some_and(one_short) {
-            self.count(BUFFER, REFUSED, place);
+            self.count(row, REFUSED, place);
         }
     }
 
@@ -566,7 +712,7 @@ impl Coverage {
     pub fn print(&self, asked: &Asked) -> bool {
         let places = if asked.only_plan { &PLACES[..1] } else { &PLACES };
         let heads: Vec<String> = places.iter().map(|(_, name)| format!("{name:>17}")).collect();
-        println!("{:<31}{}", "what was tried", heads.concat());
+        println!("{:<34}{}", "what was tried", heads.concat());
         let mut enough = true;
         for (row, counts) in ROWS.iter().zip(&self.counts) {
             let least = match row.class {
@@ -589,10 +735,17 @@ impl Coverage {
                 false => "-".to_string(),
             });
             let cells: Vec<String> = cells.map(|cell| format!("{cell:>17}")).collect();
-            println!("{:<31}{}", row.name, cells.concat());
+            println!("{:<34}{}", row.name, cells.concat());
         }
         enough
     }
+}
+
+/// A row with a side, and whether it is met.
+type Limit = (bool, (usize, usize));
+
+fn met_limits(limits: &[Limit]) -> Vec<(usize, usize)> {
+    limits.iter().filter(|(is_met, _)| *is_met).map(|&(_, limit)| limit).collect()
 }
 
 /// The rows and sides of a downscale of an operand that stands here, which was taken (0) or refused with this number.
@@ -600,14 +753,105 @@ fn downscale_limits(header: &Header, operand: Standing, number: u32) -> Vec<(usi
     let raised = header.waterline + header.factor;
     let levels_left = header.top_level - operand.level;
     let modulus = header.factor * levels_left;
-    let limits = [
+    let filled = raised + header.headroom_bits();
+    let row = if header.headroom.is_some() { HEADROOM_OF_DOWNSCALE } else { DOWNSCALE_MODULUS };
+    met_limits(&[
         (number == 0 && operand.scale == raised - 1, (DOWNSCALE_SCALE, TAKEN)),
         (number == 14 && operand.scale == raised, (DOWNSCALE_SCALE, REFUSED)),
-        (number == 0 && raised == modulus, (DOWNSCALE_MODULUS, TAKEN)),
-        (number == 9 && raised == modulus + 1, (DOWNSCALE_MODULUS, REFUSED)),
+        (number == 0 && filled == modulus, (row, TAKEN)),
+        (number == 9 && filled == modulus + 1, (row, REFUSED)),
+        (number == 9 && raised <= modulus, (HEADROOM_MODULUS, TAKEN)),
         (number == 9 && levels_left == 1, (DOWNSCALE_LAST_LEVEL, TAKEN)),
-    ];
-    limits.into_iter().filter(|(is_met, _)| *is_met).map(|(_, limit)| limit).collect()
+    ])
+}
+
+/// The row of a scale at its bound in this line; none where the line only has its operand's, and for `ds`, which has rows of its own.
+fn row_of_scale(header: &Header, line: Line) -> Option<usize> {
+    let row = match line {
+        Line::In => HEADROOM_OF_IN,
+        Line::Enc { .. } => HEADROOM_OF_ENC,
+        Line::Upscale { .. } => HEADROOM_OF_US,
+        Line::Mul { .. } => HEADROOM_OF_MUL,
+        Line::Modswitch { .. } => HEADROOM_OF_MS,
+        _ => return None,
+    };
+    Some(if header.headroom.is_some() { row } else { MODULUS })
+}
+
+/// The rows and sides of the lines of a schedule or listing, from where they stand.
+fn scale_limits(file: &File, held: &[Option<Standing>], reply: Reply) -> Vec<(usize, usize)> {
+    let (header, headroom) = (&file.header, file.header.headroom_bits());
+    let limits = file.lines().iter().zip(held).enumerate().flat_map(|(n, (&line, &standing))| {
+        let number = if n + 2 == reply.place as usize { reply.number } else { 0 };
+        let met = |(row, Standing { scale, level })| {
+            let reserve = header.factor * level - scale;
+            met_limits(&[
+                (number == 0 && reserve == headroom, (row, TAKEN)),
+                (number == 9 && reserve == headroom - 1, (row, REFUSED)),
+                (number == 9 && reserve >= 0, (HEADROOM_MODULUS, TAKEN)),
+            ])
+        };
+        row_of_scale(header, line).zip(standing).map_or(Vec::new(), met)
+    });
+    limits.collect()
+}
+
+/// The row of a best reserve at its bound in this line; none where the line only has an operand's.
+fn row_of_reserve(header: &Header, lines: &[Line], line: Line) -> Option<usize> {
+    let is_constant = |n: u16| lines[usize::from(n)].kind() == ValueKind::Constant;
+    let row = match line {
+        Line::In => HEADROOM_OF_RESERVE,
+        Line::Mul { a, b } if is_constant(a) || is_constant(b) => HEADROOM_BY_CONSTANT,
+        Line::Mul { .. } => HEADROOM_OF_PRODUCT,
+        _ => return None,
+    };
+    Some(if header.headroom.is_some() { row } else { RESERVE })
+}
+
+/// The rows and sides of best reserves that are just enough, in a circuit in which all are, or that are one bit too small.
+fn reserve_limits(header: &Header, lines: &[Line], is_short: bool) -> Vec<(usize, usize)> {
+    let headroom = header.headroom_bits();
+    let (bound, side) = if is_short { (headroom - 1, REFUSED) } else { (headroom, TAKEN) };
+    let reserves = plan::best_reserves(header, lines);
+    let at_bound = reserves.into_iter().zip(lines).filter(|&(reserve, _)| reserve == Some(bound));
+    at_bound.filter_map(|(_, &line)| row_of_reserve(header, lines, line)).map(|row| (row, side)).collect()
+}
+
+/// The circuit without an H.
+fn without_headroom(circuit: &File) -> File {
+    let mut without = circuit.clone();
+    without.header.headroom = None;
+    without
+}
+
+/// The rows and sides of a circuit that was planned.
+fn plan_limits(circuit: &File, reply: Reply) -> Vec<(usize, usize)> {
+    let is_short = reply.number == 6;
+    let mut limits = reserve_limits(&circuit.header, circuit.lines(), is_short);
+    if is_short && plan::plan_of(&without_headroom(circuit)).is_ok() {
+        limits.push((HEADROOM_TOO_FEW, TAKEN));
+    }
+    limits
+}
+
+/// The same for the least level: at that level and the one below, or at L = 60 where none fits.
+fn least_level_limits(circuit: &File, reply: Reply) -> Vec<(usize, usize)> {
+    let is_short = reply.number == 6;
+    let least = if is_short { 60 } else { reply.length as i32 };
+    let at_level = |top_level, is_short| {
+        let header = Header { top_level, ..circuit.header };
+        reserve_limits(&header, circuit.lines(), is_short)
+    };
+    let without = plan::least_level(&without_headroom(circuit));
+    let mut limits = at_level(least, is_short);
+    if !is_short && least > 1 {
+        limits.extend(at_level(least - 1, true));
+    }
+    limits.extend(met_limits(&[
+        (is_short && without.is_ok(), (HEADROOM_TOO_FEW, TAKEN)),
+        (!is_short && without != Ok(least as u32), (HEADROOM_LEAST_LEVEL, TAKEN)),
+    ]));
+    limits
 }
 
 #[cfg(test)]
@@ -639,6 +883,10 @@ mod tests {
         assert_eq!([row(&constants, 0)[0], row(&constants, 11)[0]], [1, 1]);
         let headers = counted(&[("circuit 60 20 1/", 99), ("circuit 61 20 1/", 99), ("circuit 61 61 1/", 99)]);
         assert_eq!([row(&headers, HEADER_HIGH), row(&headers, HEADER_HIGH + 1)], [[1, 1], [0, 0]]);
+        let headroom = ["1", "0", "60", "61", "5"].map(|number| format!("circuit 60 20 1 {number}/"));
+        let headroom = counted(&headroom.each_ref().map(|header| (&header[..], 99)));
+        assert_eq!([row(&headroom, HEADER_LOW + 3), row(&headroom, HEADER_HIGH + 3)], [[1, 1], [1, 1]]);
+        assert_eq!([row(&headroom, HEADROOM), row(&headroom, HEADER_LOW + 2)], [[3, 0], [3, 0]]);
         let digits = counted(&[("circuit 60 20 1/in/neg 99999999999/", 99), ("circuit 60 20 1/in/neg 999999999999/", 99)]);
         assert_eq!(row(&digits, DIGITS), [1, 1]);
         let lines = ["in/".repeat(256), "in/".repeat(257)].map(|lines| format!("circuit 60 20 1/{lines}"));
@@ -687,6 +935,97 @@ mod tests {
         let levels = [0, 1, 2, 3].map(|level| format!("rising 60 20 2/const 5/enc 0 20 {level}/"));
         let levels = levels.each_ref().map(String::as_str);
         assert_eq!([listing_row(&levels, RISING_LEVEL_ENDS), listing_row(&levels, RISING_LEVEL_PAST)], [[1, 1], [1, 0]]);
+    }
+
+    /// The fourth field of a header, and a fifth; a header with another fault is not counted.
+    #[test]
+    fn faults_of_a_headroom() {
+        let all = ["", "5 5", "05", "-5", "99999999999", "999999999999", "65596", "4294967297", "x", "61"];
+        let headers = all.map(|field| format!("circuit 60 20 1 {field}/in/"));
+        let headers = counted(&headers.each_ref().map(|header| (&header[..], 99)));
+        for of in [HEADROOM_FORM, HEADROOM_SIGN, HEADROOM_DIGITS, HEADROOM_WRAP] {
+            assert_eq!(row(&headers, of), [1, 1], "{}", ROWS[of].name);
+        }
+        let others = all.map(|field| format!("circuit 61 20 1 {field}/in/"));
+        let others = counted(&others.each_ref().map(|header| (&header[..], 99)));
+        let unclosed = counted(&[("circuit 60 20 1 ", 99), ("schedule 60 20 1 /", 99), ("circuit 60 20 1 5 5 5/", 99)]);
+        for of in [HEADROOM_FORM, HEADROOM_SIGN, HEADROOM_DIGITS, HEADROOM_WRAP] {
+            assert_eq!([row(&others, of), row(&unclosed, of)], [[0, 0]; 2], "{}", ROWS[of].name);
+        }
+    }
+
+    /// x² at L = 1 has a best reserve of 20, with F = 59 and W = 30 one of −1, for which no H is needed. With F = 1 the least level goes from 1 to
+    /// 60 and then there is none.
+    #[test]
+    fn limits_of_best_reserves() {
+        let circuits = ["60 20 1 20/in/mul 0 0", "60 20 1 21/in/mul 0 0", "60 20 1 5/in/mul 0 0", "59 30 1 1/in/mul 0 0"];
+        let circuits = circuits.map(|circuit| format!("circuit {circuit}/"));
+        let planned = counted(&circuits.each_ref().map(|circuit| (&circuit[..], 99)));
+        assert_eq!([row(&planned, HEADROOM_OF_PRODUCT), row(&planned, HEADROOM_TOO_FEW)], [[1, 1], [1, 0]]);
+        let mut coverage = Coverage::default();
+        for shown in circuits.into_iter().chain(["1 1 1 59", "1 1 1 60", "1 1 1"].map(|header| format!("circuit {header}/in/")))
+        {
+            let circuit = shown.replace('/', "\n").replace(' ', "\t").into_bytes();
+            let call = Call { service: Service::LeastLevel, first: &circuit, second: &[], room: 0 };
+            coverage.count_call(&call, services::least_level(&circuit), &[]);
+        }
+        let of = |row: usize| coverage.counts[row][Place::LeastLevel as usize];
+        assert_eq!([of(HEADROOM_OF_RESERVE), of(HEADROOM_OF_PRODUCT), of(RESERVE)], [[1, 2], [1, 1], [1, 0]]);
+        assert_eq!([of(HEADROOM_TOO_FEW), of(HEADROOM_LEAST_LEVEL)], [[1, 0], [2, 0]]);
+        let constant = ["20", "21"].map(|headroom| format!("circuit 60 20 1 {headroom}/in/const 7/mul 1 0/"));
+        let constant = counted(&constant.each_ref().map(|circuit| (&circuit[..], 99)));
+        assert_eq!([row(&constant, HEADROOM_BY_CONSTANT), row(&constant, HEADROOM_OF_PRODUCT)], [[1, 1], [0, 0]]);
+        let without = counted(&[("circuit 60 30 1/in/mul 0 0/", 99), ("circuit 59 30 1/in/mul 0 0/", 99)]);
+        assert_eq!(row(&without, RESERVE), [1, 1]);
+    }
+
+    /// The counts of a check in a row, over pairs of a circuit's and a schedule's header and the schedule's lines.
+    fn check_row(pairs: &[[&str; 3]], row: usize) -> [u64; 2] {
+        let mut coverage = Coverage::default();
+        for [one, other, lines] in pairs {
+            let schedule = format!("schedule {other}/{lines}").replace('/', "\n").replace(' ', "\t").into_bytes();
+            let mut erased = vec![0; 999];
+            let length = services::erase(&schedule, &mut erased).length as usize;
+            let kept = erased[..length].splitn(2, |&byte| byte == b'\n').nth(1).expect("a header and more");
+            let circuit = [format!("circuit {one}\n").replace(' ', "\t").as_bytes(), kept].concat();
+            let call = Call { service: Service::Check, first: &circuit, second: &schedule, room: 0 };
+            coverage.count_call(&call, services::check(&circuit, &schedule), &[]);
+        }
+        coverage.counts[row].iter().fold([0; 2], |sum, sides| [sum[0] + sides[0], sum[1] + sides[1]])
+    }
+
+    #[test]
+    fn limits_of_scales_beside_a_headroom() {
+        let [forty, more] = ["60 20 1 40", "60 20 1 41"];
+        let lines = [
+            [forty, forty, "in/"],
+            [more, more, "in/"],
+            [forty, "60 20 1", "in/"],
+            ["60 20 1", forty, "in/"],
+            [forty, more, "in/"],
+        ];
+        assert_eq!(check_row(&lines, HEADROOM_OF_IN), [1, 1]);
+        assert_eq!([check_row(&lines, HEADROOM_ALONE), check_row(&lines, HEADROOM_DIFFERS)], [[1, 1], [1, 0]]);
+        let encoded = [[forty, forty, "const 5/enc 0 20 1/"], [more, more, "const 5/enc 0 20 1/"]];
+        assert_eq!([check_row(&encoded, HEADROOM_OF_ENC), check_row(&encoded, HEADROOM_OF_IN)], [[1, 1], [0, 0]]);
+        let two = "60 20 2 40";
+        let raised =
+            [[two, two, "in/us 0 60/"], [two, two, "in/us 0 61/"], [two, two, "in/us 0 59/"], [two, two, "in/us 0 101/"]];
+        assert_eq!([check_row(&raised, HEADROOM_OF_US), check_row(&raised, HEADROOM_MODULUS)], [[1, 1], [1, 0]]);
+        let levels = [[two, two, "in/ms 0 1/"], ["60 20 2 41", "60 20 2 41", "in/ms 0 1/"]];
+        assert_eq!([check_row(&levels, HEADROOM_OF_MS), check_row(&levels, HEADROOM_OF_US)], [[1, 1], [0, 0]]);
+        let products = [["60 20 1 20", "60 20 1 20", "in/mul 0 0/neg 1/"], ["60 20 1 21", "60 20 1 21", "in/mul 0 0/"]];
+        assert_eq!(check_row(&products, HEADROOM_OF_MUL), [1, 1]);
+        let without = [["60 20 1", "60 20 1", "in/us 0 40/"], ["60 20 1", "60 20 1", "in/us 0 41/"]];
+        assert_eq!([check_row(&without, MODULUS), check_row(&without, HEADROOM_OF_US)], [[1, 1], [0, 0]]);
+        let listings =
+            ["40/in/ds 0/", "41/in/ds 0/", "40/in/us 0 61/", "40/in/us 0 60/"].map(|rest| format!("rising 60 20 2 {rest}"));
+        let listings = listings.each_ref().map(String::as_str);
+        assert_eq!(
+            [listing_row(&listings, HEADROOM_OF_DOWNSCALE), listing_row(&listings, DOWNSCALE_MODULUS)],
+            [[1, 1], [0, 0]]
+        );
+        assert_eq!([listing_row(&listings, HEADROOM_OF_US), listing_row(&listings, HEADROOM_MODULUS)], [[1, 1], [2, 0]]);
     }
 
     #[test]
@@ -748,6 +1087,12 @@ mod tests {
             (DOWNSCALE, "success with ds"),
             (CONVERTED, "1792 | 1793 lines converted"),
             (RULE_FIRST, "rule broken behind a 3"),
+            (HEADER_LOW + 3, "H = 1 | 0"),
+            (HEADER_HIGH + 3, "H = 60 | 61"),
+            (HEADROOM, "success with H"),
+            (HEADROOM_DIFFERS, "12 by H in both"),
+            (HEADROOM_OF_IN, "in, W + H = F L | F L + 1"),
+            (HEADROOM_LEAST_LEVEL, "least level higher by H"),
         ];
         assert!(names.iter().chain(&more).all(|&(row, name)| ROWS[row].name == name));
         assert_eq!(BUFFER, ROWS.len() - 1);

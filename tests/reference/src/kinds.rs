@@ -51,7 +51,7 @@ pub const KINDS: [Kind; 15] = [
 ];
 
 /// The kinds follow each other in this order, over and over.
-const ROUND: [Kind; 25] = [
+const ROUND: [Kind; 26] = [
     Kind::Circuit,
     Kind::HandMade,
     Kind::DamagedCircuit,
@@ -76,6 +76,7 @@ const ROUND: [Kind; 25] = [
     Kind::DamagedSchedule,
     Kind::Machines,
     Kind::Buffer,
+    Kind::Limit,
     Kind::DamagedListing,
 ];
 
@@ -187,6 +188,10 @@ fn likely_circuit(random: &mut Random, most_lines: usize) -> File {
     let mut circuit = files::circuit_of_size(random, size);
     if let Ok(least) = plan::least_level(&circuit) {
         circuit.header.top_level = (least as i32 + random.pick(&[0, 0, 1, 2, 5])).min(60);
+    }
+    // An H that leaves some line no bit more, or is near that.
+    if circuit.header.headroom.is_some() && random.percent(30) {
+        files::set_headroom_near_best(random, &mut circuit);
     }
     circuit
 }
@@ -313,4 +318,16 @@ fn soup(random: &mut Random, both: &mut Both) -> Result<(), String> {
     both.to_rising(b"", 0)?;
     both.least_level(b"")?;
     Ok(())
+}
+
+#[cfg(test)]
+mod tests {
+    use super::*;
+
+    /// In a run of 200,000 cases every limit comes up.
+    #[test]
+    fn a_run_goes_through_all_limits() {
+        let cases = (0..200_000).filter(|&case| Kind::of_case(case) == Kind::Limit).count();
+        assert!(cases >= limit_pairs().len(), "{cases} cases, {} limits", limit_pairs().len());
+    }
 }

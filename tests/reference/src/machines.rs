@@ -2,6 +2,7 @@
 
 use crate::big::Big;
 use crate::text::{File, Header, Line};
+use std::cmp::Ordering;
 use std::collections::HashMap;
 
 pub type Vector = Vec<Big>;
@@ -30,6 +31,19 @@ pub enum Reason {
     AboveModulus,
     /// A line that the text layer refuses: no machine is started on it.
     NoScale,
+}
+
+impl Reason {
+    /// The number with which the check refuses such a line; where a division leaves a remainder, the scale falls below zero.
+    pub fn number(self) -> Option<u32> {
+        match self {
+            Reason::LevelsDiffer => Some(7),
+            Reason::ScalesDiffer => Some(8),
+            Reason::Remainder | Reason::BelowWaterline => Some(10),
+            Reason::AboveModulus => Some(9),
+            Reason::NoScale => None,
+        }
+    }
 }
 
 /// Where and why it stops; `line` is a value number.
@@ -98,7 +112,8 @@ pub fn scale_machine(schedule: &File, handed: &Handed) -> Result<Vec<Held>, Stop
             if scale < i64::from(header.waterline) {
                 return Err(stop(Reason::BelowWaterline));
             }
-            if scale > i64::from(header.factor) * level {
+            // "a scale above F·level", which takes H in as the rule does.
+            if scale + i64::from(header.headroom_bits()) > i64::from(header.factor) * level {
                 return Err(stop(Reason::AboveModulus));
             }
         }
@@ -170,8 +185,53 @@ pub fn first_wrong_line(schedule: &File, held: &[Held], plain: &[Vector]) -> Opt
         }
         count += 1;
     }
-    // A line that is missing on either side is wrong too.
+    // A line that the schedule lacks is wrong too.
     (count != plain.len()).then_some(count)
+}
+
+/// A circuit line other than a bare constant, beside its bounds, in a schedule that has an H.
+#[derive(Clone, Copy, PartialEq, Eq, Debug)]
+pub struct Bounded {
+    /// The greatest of its circuit numbers, in absolute value, against two to the power (H − 1).
+    pub own: Ordering,
+    /// Whether that is two to the power (H − 1) less one, and not 0.
+    pub is_greatest: bool,
+    /// The greatest of the numbers that it holds, in absolute value, against half its modulus.
+    pub held: Ordering,
+    /// Whether scale + H is F·level, so that not one bit more has a place.
+    pub is_full: bool,
+}
+
+impl Bounded {
+    /// "where H is given, a circuit line other than a bare constant whose circuit numbers are in absolute value below two to the power (H − 1) holds
+    /// in the scale machine only numbers in absolute value below half its modulus"
+    pub fn keeps_promise(self) -> bool {
+        self.own != Ordering::Less || self.held == Ordering::Less
+    }
+}
+
+fn greatest(vector: &Vector) -> Big {
+    vector.iter().map(Big::abs).max_by(Big::compare).expect("a length of at least 1")
+}
+
+/// The circuit lines other than bare constants, `out` lines among them, of a schedule that ran to its end; none where it has no H.
+pub fn bounded_lines(schedule: &File, held: &[Held], plain: &[Vector]) -> Vec<Bounded> {
+    let Header { factor, headroom: Some(headroom), .. } = schedule.header else { return Vec::new() };
+    let bound = Big::two_to(headroom as usize - 1);
+    let kept = schedule.lines().iter().zip(held).filter(|(line, _)| line.struck_from().is_none());
+    let bounded = |((_, held), numbers): ((&Line, &Held), &Vector)| {
+        let (scale, level) = held.standing?;
+        // "the modulus being two to F·level"
+        let modulus_bits = i64::from(factor) * level;
+        let own = greatest(numbers);
+        Some(Bounded {
+            own: own.compare(&bound),
+            is_greatest: headroom > 1 && own.add(&Big::from_i64(1)) == bound,
+            held: greatest(&held.vector).compare(&Big::two_to(modulus_bits as usize - 1)),
+            is_full: scale + i64::from(headroom) == modulus_bits,
+        })
+    };
+    kept.zip(plain).filter_map(bounded).collect()
 }
 
 #[cfg(test)]
@@ -239,5 +299,64 @@ mod tests {
         assert_eq!(reason("schedule 60 20 2/in/ms 0 1/add 0 1/"), stop(2, Reason::LevelsDiffer));
         assert_eq!(reason("schedule 60 20 2/in/us 0 1/add 0 1/"), stop(2, Reason::ScalesDiffer));
         assert_eq!(reason("schedule 60 20 2/in/us 0 60/rs 1 1/"), None);
+    }
+
+    /// Scale 80 and H = 40 fill the modulus at level 2; one bit more of either does not fit. `in` and `enc` are held to H too.
+    #[test]
+    fn stops_that_take_the_headroom_in() {
+        let reason = |shown: &str| scale_machine(&file(shown, Reading::Schedule), &handed()).err();
+        let stop = |line| Some(Stop { line, reason: Reason::AboveModulus });
+        assert_eq!(reason("schedule 60 20 2 40/in/us 0 60/rs 1 1/"), None);
+        assert_eq!(reason("schedule 60 20 2 41/in/us 0 60/rs 1 1/"), stop(1));
+        assert_eq!(reason("schedule 60 20 2 40/in/us 0 61/"), stop(1));
+        assert_eq!([reason("schedule 60 20 1 40/in/"), reason("schedule 60 20 1 41/in/")], [None, stop(0)]);
+        assert_eq!(reason("schedule 60 20 2 40/const 7/enc 0 20 1/"), None);
+        assert_eq!(reason("schedule 60 20 2 41/const 7/enc 0 20 1/"), stop(1));
+    }
+
+    /// What the lines of a schedule hold beside their bounds, its one input being these numbers.
+    fn bounded(shown: &str, input: &[i64]) -> Vec<Bounded> {
+        let schedule = file(shown, Reading::Schedule);
+        let input = input.iter().map(|&number| Big::from_i64(number)).collect();
+        let handed = Handed { inputs: vec![input], constants: HashMap::from([(7, vec![Big::from_i64(-1); 2])]) };
+        let plain = plain_machine(&crate::erase::erasure_of(&schedule), &handed);
+        let Ok(held) = scale_machine(&schedule, &handed) else { panic!("stopped") };
+        bounded_lines(&schedule, &held, &plain)
+    }
+
+    /// H = 5: detune factors to 12 and on to 15 have a place at scale 55 of 60 bits, and 16 comes to half the modulus.
+    #[test]
+    fn half_the_modulus() {
+        use Ordering::{Equal, Greater, Less};
+        let shown = "schedule 60 20 1 5/in/us 0 35/neg 1/out 2/";
+        let full = |own, is_greatest, held| vec![Bounded { own, is_greatest, held, is_full: true }; 2];
+        for (number, due) in [
+            (12, full(Less, false, Less)),
+            (-12, full(Less, false, Less)),
+            (15, full(Less, true, Less)),
+            (-15, full(Less, true, Less)),
+            (16, full(Equal, false, Equal)),
+            (-16, full(Equal, false, Equal)),
+            (17, full(Greater, false, Greater)),
+        ] {
+            let lines = bounded(shown, &[1, number]);
+            assert_eq!(lines[1..], due, "{number}");
+            // The input itself has scale 20: 35 bits more are free.
+            assert!(!lines[0].is_full && lines[0].held == Less && lines.iter().all(|line| line.keeps_promise()));
+        }
+    }
+
+    /// A number below the bound on half the modulus breaks the promise; a bare constant is not asked, and nothing is without an H.
+    #[test]
+    fn lines_that_are_asked() {
+        let [own, held] = [Ordering::Less, Ordering::Equal];
+        assert!(!Bounded { own, is_greatest: true, held, is_full: true }.keeps_promise());
+        let lines = "in/const 7/enc 1 20 1/mul 0 2/out 3/";
+        assert_eq!(bounded(&format!("schedule 60 20 1 20/{lines}"), &[3, -5]).len(), 3);
+        assert_eq!(bounded(&format!("schedule 60 20 1/{lines}"), &[3, -5]), []);
+        // H = 1: nothing but 0 is below two to the power 0.
+        let of_input = |number| bounded("schedule 60 59 1 1/in/", &[number]);
+        assert_eq!(of_input(0), [Bounded { own: Ordering::Less, is_greatest: false, held: Ordering::Less, is_full: true }]);
+        assert_eq!(of_input(1), [Bounded { own: Ordering::Equal, is_greatest: false, held: Ordering::Equal, is_full: true }]);
     }
 }

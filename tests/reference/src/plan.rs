@@ -112,7 +112,8 @@ pub fn plan_of(circuit: &File) -> Result<File, Refusal> {
     plan(circuit, &mut schedule).map(|()| schedule)
 }
 
-/// Plans a circuit into a free table. "The best reserve may come out below zero; then the circuit is refused at that line."
+/// Plans a circuit into a free table. "The best reserve may come out below zero; then the circuit is refused at that line." With an H "a best
+/// reserve below H is too few levels"; m(r) and the rest of the plan do not ask for H.
 pub fn plan(circuit: &File, schedule: &mut File) -> Result<(), Refusal> {
     let header = circuit.header;
     schedule.header = header;
@@ -124,7 +125,7 @@ pub fn plan(circuit: &File, schedule: &mut File) -> Result<(), Refusal> {
         spots[n] = step.map(|step| step.result);
         numbers[n] = match step {
             None => schedule.push(line),
-            Some(step) if step.result.reserve < 0 => return Err(Refusal::at_value(6, n)),
+            Some(step) if step.result.reserve < header.headroom_bits() => return Err(Refusal::at_value(6, n)),
             Some(step) => write_line(line, &step, &spots, &numbers, schedule),
         };
     }
@@ -185,7 +186,8 @@ pub fn bring(number: u16, from: Spot, to: Spot, schedule: &mut File) -> u16 {
     a
 }
 
-/// "The least top level is found by trying L from 1 upward to 60 and stopping at the first that fits"; 6 "at L = 60".
+/// "The least top level is found by trying L from 1 upward to 60 and stopping at the first that fits"; 6 "at L = 60". Each level is tried with the
+/// header's H.
 pub fn least_level(circuit: &File) -> Result<u32, Refusal> {
     let mut short = 0;
     for top_level in 1..=60 {
@@ -197,26 +199,43 @@ pub fn least_level(circuit: &File) -> Result<u32, Refusal> {
     Err(Refusal::at_value(6, short))
 }
 
-/// The first line with best reserve below zero.
+/// The first line with best reserve below zero, or below H.
 fn first_short_line(header: &Header, lines: &[Line]) -> Option<usize> {
     let mut spots = [None; CIRCUIT_LINES];
     for (n, &line) in lines.iter().enumerate() {
         spots[n] = step(header, line, &spots).map(|step| step.result);
-        if spots[n].is_some_and(|spot| spot.reserve < 0) {
+        if spots[n].is_some_and(|spot| spot.reserve < header.headroom_bits()) {
             return Some(n);
         }
     }
     None
 }
 
+/// The best reserves of a circuit's lines, none for a constant; the last is the first that is too small, if there is one.
+pub fn best_reserves(header: &Header, lines: &[Line]) -> Vec<Option<i32>> {
+    let mut spots = Vec::new();
+    let mut reserves = Vec::new();
+    for &line in lines {
+        let spot = step(header, line, &spots).map(|step| step.result);
+        spots.push(spot);
+        reserves.push(spot.map(|spot| spot.reserve));
+        if spot.is_some_and(|spot| spot.reserve < header.headroom_bits()) {
+            break;
+        }
+    }
+    reserves
+}
+
 #[cfg(test)]
 mod tests {
     use super::*;
+    use crate::cases::files;
+    use crate::random::Random;
     use crate::text::{file_of, Reading};
 
     /// `in`, then this many squarings.
     fn squarings(top_level: i32, count: u16) -> File {
-        let mut circuit = File::empty(Header { factor: 60, waterline: 20, top_level });
+        let mut circuit = File::empty(Header { factor: 60, waterline: 20, top_level, headroom: None });
         circuit.push(Line::In);
         for a in 0..count {
             circuit.push(Line::Mul { a, b: a });
@@ -255,7 +274,7 @@ mod tests {
 
     #[test]
     fn best_products() {
-        let header = Header { factor: 60, waterline: 20, top_level: 2 };
+        let header = Header { factor: 60, waterline: 20, top_level: 2, headroom: None };
         // 60 + 60 − 120 = 0 at level 2, or 60 − 40 = 20 at level 1.
         assert_eq!(multiply(&header, 60, 60).result, Spot { reserve: 20, level: 1 });
         // Equal: the lower level. 70 + 70 − 120 = 20 at level 2.
@@ -263,5 +282,80 @@ mod tests {
         assert_eq!(multiply(&header, 71, 70).result, Spot { reserve: 21, level: 2 });
         // Levels 1 and 2: the operand of reserve 30 keeps it.
         assert_eq!(multiply(&header, 30, 90).result, Spot { reserve: 10, level: 1 });
+    }
+
+    /// The circuit with another H.
+    fn with_headroom(circuit: &File, headroom: Option<i32>) -> File {
+        let mut other = circuit.clone();
+        other.header.headroom = headroom;
+        other
+    }
+
+    /// x² has reserve 20 at L = 1 and 80 at L = 2, x⁸ has 20 at L = 2: an H of 20 fits, 21 is too few levels.
+    #[test]
+    fn a_best_reserve_of_exactly_the_headroom() {
+        let planned = |top_level, count, headroom| refusal(&with_headroom(&squarings(top_level, count), Some(headroom)));
+        assert_eq!([planned(1, 1, 1), planned(1, 1, 20), planned(2, 3, 20)], [None; 3]);
+        assert_eq!([planned(1, 1, 21), planned(2, 3, 21)], [Some((6, 3)), Some((6, 5))]);
+        assert_eq!([planned(1, 0, 40), planned(1, 0, 41)], [None, Some((6, 2))]);
+        let least =
+            |count, headroom| least_level(&with_headroom(&squarings(1, count), headroom)).map_err(|refusal| refusal.place);
+        assert_eq!([least(1, None), least(1, Some(20)), least(1, Some(21)), least(1, Some(60))], [Ok(1), Ok(1), Ok(2), Ok(2)]);
+        assert_eq!([least(3, None), least(3, Some(20)), least(3, Some(21))], [Ok(2), Ok(2), Ok(3)]);
+    }
+
+    /// F = 1: 60 levels have 60 bits, so W = 30 leaves 30 of them. No level fits an H of 31, and every level tried has the header's H.
+    #[test]
+    fn no_level_fits() {
+        let least = |waterline, headroom| {
+            let mut circuit = File::empty(Header { factor: 1, waterline, top_level: 1, headroom });
+            circuit.push(Line::In);
+            least_level(&circuit).map_err(|refusal| (refusal.number, refusal.place))
+        };
+        assert_eq!([least(30, None), least(30, Some(1)), least(30, Some(30))], [Ok(30), Ok(31), Ok(60)]);
+        assert_eq!([least(30, Some(31)), least(60, Some(1)), least(60, None)], [Err((6, 2)), Err((6, 2)), Ok(60)]);
+    }
+
+    /// The plan with an H has the lines of the plan without, or is refused at the first line whose best reserve is below H.
+    #[test]
+    fn the_headroom_moves_no_line_of_a_plan() {
+        let (mut planned, mut refused) = (0, 0);
+        for case in 0..2000 {
+            let mut random = Random::new(16, case);
+            let circuit = with_headroom(&files::circuit(&mut random), None);
+            let Ok(plan) = plan_of(&circuit) else { continue };
+            let headroom = random.between(1, 60);
+            let reserves = best_reserves(&circuit.header, circuit.lines());
+            let short = reserves.iter().position(|reserve| reserve.is_some_and(|reserve| reserve < headroom));
+            match plan_of(&with_headroom(&circuit, Some(headroom))) {
+                Ok(with) => {
+                    planned += 1;
+                    assert!(short.is_none() && with.lines() == plan.lines() && with.header.headroom == Some(headroom));
+                }
+                Err(refusal) => {
+                    refused += 1;
+                    assert_eq!(Some(refusal), short.map(|n| Refusal::at_value(6, n)));
+                }
+            }
+        }
+        assert!(planned > 300 && refused > 300, "{planned} {refused}");
+    }
+
+    /// "a circuit which fits at one top level fits at every higher one up to 60", with an H too, and not below the least level.
+    #[test]
+    fn what_fits_at_a_level_fits_above() {
+        let mut both = 0;
+        for case in 0..300 {
+            let mut random = Random::new(17, case);
+            let headroom = random.between(1, 60);
+            let circuit = with_headroom(&files::circuit(&mut random), Some(headroom));
+            let Ok(least) = least_level(&circuit) else { continue };
+            for top_level in 1..=60 {
+                let header = Header { top_level, ..circuit.header };
+                assert_eq!(first_short_line(&header, circuit.lines()).is_none(), top_level >= least as i32);
+            }
+            both += usize::from(least > 1);
+        }
+        assert!(both > 100, "{both}");
     }
 }

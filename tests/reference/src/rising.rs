@@ -39,6 +39,18 @@ pub fn keep_rules(listing: &File, held: &mut [Standing; SCHEDULE_LINES]) -> Resu
     Ok(())
 }
 
+/// Where each line stands by its remaining level, none for a bare constant, up to the first that breaks a rule, and that one where it has a scale.
+pub fn standings(listing: &File) -> Vec<Option<Standing>> {
+    let mut held = [Standing::default(); SCHEDULE_LINES];
+    let count = match keep_rules(listing, &mut held) {
+        Ok(()) => listing.lines().len(),
+        Err(refusal) => refusal.place as usize - 1,
+    };
+    let remaining = |standing: Standing| Standing { level: listing.header.top_level - standing.level, ..standing };
+    let standing = |&line: &Line| moved(&listing.header, line, &held).ok().flatten().map(remaining);
+    listing.lines()[..count].iter().map(standing).collect()
+}
+
 /// Where a line stands that keeps the rules; a bare constant stands nowhere.
 pub fn standing_after(header: &Header, line: Line, held: &[Standing]) -> Result<Option<Standing>, u32> {
     match moved(header, line, held)? {
@@ -70,7 +82,7 @@ fn moved(header: &Header, line: Line, held: &[Standing]) -> Result<Option<Standi
 }
 
 /// "A `ds A` line, downscale, brings a ciphertext to W one level further on", "`ds` being legal where its two lines are": its `us` to W + F must
-/// raise the scale, else 14, and stay within the modulus, else 9. The `rs` then lands on W, within the modulus one level on.
+/// raise the scale, else 14, and stay within the modulus, else 9. The `rs` then lands on W, as far within the modulus one level on.
 fn downscaled(header: &Header, operand: Standing) -> Result<Standing, u32> {
     let raised = Standing { scale: header.waterline + header.factor, ..operand };
     if operand.scale >= raised.scale {
@@ -83,7 +95,7 @@ fn downscaled(header: &Header, operand: Standing) -> Result<Standing, u32> {
 }
 
 fn is_above_modulus(header: &Header, standing: Standing) -> bool {
-    standing.scale > header.factor * (header.top_level - standing.level)
+    !header.has_room_for(standing.scale, header.top_level - standing.level)
 }
 
 /// "A `ds` at scale s becomes `us` by W + F − s and `rs` by 1"; what named it names the `rs`.
@@ -223,6 +235,32 @@ mod tests {
         is_refused("rising 10 60 7/in/ms 0 1/ds 1/", 9, 4);
     }
 
+    /// "In all three headers", and written through each way. At remaining level 2 a `ds` leaves 120 − 80 = 40 bits, and at level 1 its `rs` as many.
+    #[test]
+    fn the_headroom_of_a_listing() {
+        converts("rising 60 20 2 40/in/ds 0/", "schedule 60 20 2 40/in/us 0 60/rs 1 1/");
+        is_refused("rising 60 20 2 41/in/ds 0/", 9, 3);
+        is_refused("rising 60 20 2 40/in/ms 0 1/ds 1/", 9, 4);
+        converts("rising 60 20 3 40/in/ms 0 1/ds 1/", "schedule 60 20 3 40/in/ms 0 1/us 1 60/rs 2 1/");
+        // A scale of W + F leaves as many bits, so 14 and 9 do not meet here either.
+        is_refused("rising 60 20 2 40/in/us 0 60/ds 1/", 14, 4);
+        is_refused("rising 60 20 2 41/in/us 0 60/ds 1/", 9, 3);
+        goes_there_and_back("rising 60 20 1 40/in/", "schedule 60 20 1 40/in/");
+        is_refused("rising 60 20 1 41/in/", 9, 2);
+        is_refused_out("schedule 60 20 1 41/in/", 9, 2);
+        goes_there_and_back("rising 60 20 3 5/const 7/enc 0 55 2/", "schedule 60 20 3 5/const 7/enc 0 55 1/");
+        is_refused("rising 60 20 3 5/const 7/enc 0 56 2/", 9, 3);
+        is_refused_out("schedule 60 20 3 5/const 7/enc 0 56 1/", 9, 3);
+        goes_there_and_back("rising 60 20 2 1/", "schedule 60 20 2 1/");
+        goes_there_and_back("rising 60 20 2 60/in/us 0 40/", "schedule 60 20 2 60/in/us 0 40/");
+        is_refused("rising 60 20 2 60/in/us 0 41/", 9, 3);
+        is_refused("rising 60 20 2 /in/", 1, 1);
+        is_refused("rising 60 20 2 0/in/", 2, 1);
+        is_refused("rising 60 20 2 61/in/", 2, 1);
+        is_refused_out("schedule 60 20 2 0/in/", 2, 1);
+        is_refused_out("schedule 60 20 2 /in/", 1, 1);
+    }
+
     /// Whatever names a `ds` names its `rs`, also another `ds`; equal conversions are not shared.
     #[test]
     fn users_of_a_downscale() {
@@ -290,7 +328,7 @@ mod tests {
             ("risin 60 20 2/", 1, 1),
             ("risings 60 20 2/", 1, 1),
             ("rising 60 20/", 1, 1),
-            ("rising 60 20 2 1/", 1, 1),
+            ("rising 60 20 2 1 1/", 1, 1),
             ("rising 61 20 2/", 2, 1),
             ("rising 60 0 2/", 2, 1),
             ("rising 60 20 4294967298/", 2, 1),

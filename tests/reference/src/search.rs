@@ -33,7 +33,7 @@ const NO_PAIR: u8 = u8::MAX;
 
 struct Search {
     header: Header,
-    /// All pairs with W ≤ scale ≤ F·level and level from 1 to L.
+    /// All pairs with W ≤ scale, scale + H ≤ F·level and level from 1 to L.
     pairs: Vec<Pair>,
     /// For each pair the pairs that `us`, `rs` and `ms` lines lead to, itself included.
     reach: Vec<Vec<u8>>,
@@ -46,7 +46,7 @@ impl Search {
     fn new(header: Header) -> Option<Search> {
         let mut pairs = Vec::new();
         for level in 1..=header.top_level {
-            for scale in header.waterline..=header.factor * level {
+            for scale in header.waterline..=header.factor * level - header.headroom_bits() {
                 pairs.push(Pair { scale, level });
             }
         }
@@ -199,6 +199,21 @@ mod tests {
         assert_eq!(answer("circuit 3 1 2/in/mul 0 0/mul 1 1/mul 2 2/"), Answer::Exists);
         assert_eq!(answer("circuit 3 1 2/in/mul 0 0/mul 1 1/mul 2 2/mul 3 3/"), Answer::NoneFrom(4));
         assert_eq!(answer("circuit 3 1 3/in/mul 0 0/mul 1 1/mul 2 2/mul 3 3/"), Answer::Exists);
+    }
+
+    /// The same with an H: x² has 20 bits of reserve, x⁸ at L = 2 too, and x⁸ at L = 3 has 80; a constant is encoded beside the H too.
+    #[test]
+    fn headroom() {
+        assert_eq!(answer("circuit 3 1 1 1/in/mul 0 0/"), Answer::Exists);
+        assert_eq!(answer("circuit 3 1 1 2/in/mul 0 0/"), Answer::NoneFrom(1));
+        assert_eq!(answer("circuit 3 1 2 1/in/mul 0 0/mul 1 1/mul 2 2/"), Answer::Exists);
+        assert_eq!(answer("circuit 3 1 2 2/in/mul 0 0/mul 1 1/mul 2 2/"), Answer::NoneFrom(3));
+        assert_eq!(answer("circuit 3 1 3 4/in/mul 0 0/mul 1 1/mul 2 2/"), Answer::Exists);
+        assert_eq!(answer("circuit 3 1 3 5/in/mul 0 0/mul 1 1/mul 2 2/"), Answer::NoneFrom(3));
+        assert_eq!([answer("circuit 4 5 2 3/in/"), answer("circuit 4 5 2 4/in/")], [Answer::Exists, Answer::NoneFrom(0)]);
+        assert_eq!(answer("circuit 4 3 1 1/in/const 7/add 0 1/"), Answer::Exists);
+        assert_eq!(answer("circuit 4 1 1 2/in/const 7/mul 0 1/"), Answer::Exists);
+        assert_eq!(answer("circuit 4 1 1 3/in/const 7/mul 0 1/"), Answer::NoneFrom(2));
     }
 
     #[test]

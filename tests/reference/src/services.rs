@@ -193,6 +193,29 @@ mod tests {
         assert_eq!(plan(&bytes("circuit 59 60 1/in/"), &mut []).number, 6);
     }
 
+    /// The worked program with an H: its last product has reserve 20, so the lines are the same up to H = 20, and 21 asks for a third level.
+    #[test]
+    fn the_headroom_is_written_through() {
+        for headroom in ["", " 1", " 5", " 20"] {
+            let circuit = bytes(&format!("circuit 60 20 2{headroom}/in/const 7/mul 0 1/mul 2 1/mul 3 3/out 4/"));
+            let schedule = bytes(&format!(
+                "schedule 60 20 2{headroom}/in/const 7/enc 1 20 2/mul 0 2/enc 1 20 2/mul 3 4/us 5 20/rs 6 1/us 5 20/rs 8 1/mul 7 9/out 10/"
+            ));
+            assert_eq!(program(&circuit), schedule);
+            assert_eq!(check(&circuit, &schedule), Reply::success(0));
+            assert_eq!(least_level(&circuit), Reply::success(2));
+            let mut out = vec![b'#'; circuit.len() + 1];
+            assert_eq!(erase(&schedule, &mut out[..circuit.len() - 1]), Reply::too_short());
+            assert_eq!(erase(&schedule, &mut out), Reply::success(circuit.len() as u32));
+            assert_eq!(out, [&circuit[..], b"#"].concat());
+        }
+        let refused = |number, place| Reply { number, file: 1, place, length: 0 };
+        let circuit = bytes("circuit 60 20 2 21/in/const 7/mul 0 1/mul 2 1/mul 3 3/out 4/");
+        assert_eq!([plan(&circuit, &mut [0; 200]), plan(&circuit, &mut [])], [refused(6, 6); 2]);
+        assert_eq!(program(&circuit), b"refused\t6\t6\n");
+        assert_eq!(least_level(&circuit), Reply::success(3));
+    }
+
     #[test]
     fn files_are_named_in_the_order_read() {
         let circuit = bytes("circuit 60 20 1/in/");

@@ -8,15 +8,29 @@ pub const SCHEDULE_LINES: usize = 1792;
 pub const KEPT_LINES: usize = 256;
 /// "A field that is no number gives 1, as does one over 11 bytes."
 const FIELD_BYTES: usize = 11;
-/// The longest lines are an `enc` and a `const` of 17 bytes, the longest header has 18.
-pub const TEXT_BYTES: usize = 18 + 17 * SCHEDULE_LINES;
+/// The longest lines are an `enc` and a `const` of 17 bytes, the longest header has 21.
+pub const TEXT_BYTES: usize = 21 + 17 * SCHEDULE_LINES;
 
-/// F is the rescale factor, W the waterline, L the top level.
+/// F is the rescale factor, W the waterline, L the top level. Document 02, Job 3: "The header gains a fourth number H, bits of size with the sign,
+/// from 1 to 60; three numbers mean none".
 #[derive(Clone, Copy, PartialEq, Eq, Debug)]
 pub struct Header {
     pub factor: i32,
     pub waterline: i32,
     pub top_level: i32,
+    pub headroom: Option<i32>,
+}
+
+impl Header {
+    /// H, and 0 where there is none: the bits that each scale leaves free below the modulus, and the least best reserve that is enough.
+    pub fn headroom_bits(&self) -> i32 {
+        self.headroom.unwrap_or(0)
+    }
+
+    /// "Each scale must satisfy scale + H ≤ F·level"; `level` is the one that remains.
+    pub fn has_room_for(&self, scale: i32, level: i32) -> bool {
+        scale + self.headroom_bits() <= self.factor * level
+    }
 }
 
 /// One line after the header; `a` and `b` are operands, "a value number counts the lines after the header from 0". `Downscale` is `ds A` and
@@ -108,7 +122,7 @@ impl File {
 
     /// "A call starts from a table of 1,792 line records, all free."
     pub fn free() -> File {
-        File::empty(Header { factor: 0, waterline: 0, top_level: 0 })
+        File::empty(Header { factor: 0, waterline: 0, top_level: 0, headroom: None })
     }
 
     pub fn lines(&self) -> &[Line] {
@@ -253,15 +267,19 @@ fn read_header(content: &[u8], reading: Reading) -> Result<Header, u32> {
     for slot in &mut numbers {
         *slot = fields.next().and_then(read_number).ok_or(1u32)?;
     }
+    let headroom = match fields.next() {
+        Some(field) => Some(read_number(field).ok_or(1u32)?),
+        None => None,
+    };
     if fields.next().is_some() {
         return Err(1);
     }
-    // "all whole numbers from 1 to 60"
-    if numbers.iter().any(|number| !(1..=60).contains(number)) {
+    // "all whole numbers from 1 to 60", and H too
+    if numbers.iter().chain(&headroom).any(|number| !(1..=60).contains(number)) {
         return Err(2);
     }
     let [factor, waterline, top_level] = numbers.map(|number| number as i32);
-    Ok(Header { factor, waterline, top_level })
+    Ok(Header { factor, waterline, top_level, headroom: headroom.map(|number| number as i32) })
 }
 
 #[derive(Clone, Copy, PartialEq, Eq)]
@@ -533,10 +551,11 @@ impl Text {
     }
 }
 
-/// Writes a file under the header word of `reading`.
+/// Writes a file under the header word of `reading`. Without an H the header has three numbers.
 pub fn write(file: &File, reading: Reading, text: &mut Text) {
-    let Header { factor, waterline, top_level } = file.header;
-    text.put_record(reading.header_word(), &[factor, waterline, top_level].map(i64::from));
+    let Header { factor, waterline, top_level, headroom } = file.header;
+    let numbers = [factor, waterline, top_level, headroom.unwrap_or(0)].map(i64::from);
+    text.put_record(reading.header_word(), if headroom.is_some() { &numbers } else { &numbers[..3] });
     for &line in file.lines() {
         text.put_line(line);
     }
@@ -586,6 +605,46 @@ mod tests {
         assert_eq!(circuit("circuit 0 20 x/"), Some((1, 1)));
     }
 
+    /// "The header gains a fourth number H, .. from 1 to 60; three numbers mean none", in "all three headers". Form comes before range.
+    #[test]
+    fn the_fourth_number_of_a_header() {
+        let all = |numbers: &str| {
+            let readings = [Reading::Circuit, Reading::Schedule, Reading::ScheduleToErase, Reading::Listing];
+            let found = readings.map(|reading| {
+                let word = reading.header_word().escape_ascii();
+                refusal(&format!("{word} {numbers}/in/"), reading)
+            });
+            assert_eq!(found, [found[0]; 4], "{numbers}");
+            found[0]
+        };
+        for taken in ["60 20 2", "60 20 2 1", "60 20 2 2", "60 20 2 9", "60 20 2 10", "60 20 2 59", "60 20 2 60", "1 1 1 1"] {
+            assert_eq!(all(taken), None, "{taken}");
+        }
+        for outside in ["0", "61", "65537", "4294967297", "99999999999"] {
+            assert_eq!(all(&format!("60 20 2 {outside}")), Some((2, 1)), "{outside}");
+        }
+        for bad in ["", "01", "00", "-1", "-0", "+1", "x", "5x", "100000000000", "5 5", "5 ", " 5", "0 0", "61 x", "5 5 5"] {
+            assert_eq!(all(&format!("60 20 2 {bad}")), Some((1, 1)), "{bad}");
+            assert_eq!(all(&format!("61 20 2 {bad}")), Some((1, 1)), "{bad}");
+        }
+        assert_eq!([all("61 20 2 5"), all("60 0 2 5"), all("60 20 61 61")], [Some((2, 1)); 3]);
+        assert_eq!(circuit("circuit 60 20 2 5"), Some((1, 1)));
+    }
+
+    /// "none is written so": a header without an H has three numbers.
+    #[test]
+    fn headers_are_written_as_they_were_read() {
+        for numbers in ["60 20 2", "60 20 2 1", "60 20 2 5", "1 1 1 60"] {
+            for reading in [Reading::Circuit, Reading::ScheduleToErase, Reading::Listing] {
+                let word = reading.header_word().escape_ascii();
+                let bytes = format!("{word} {numbers}/in/out 0/").replace('/', "\n").replace(' ', "\t");
+                let Ok(file) = file_of(bytes.as_bytes(), reading) else { panic!("refused") };
+                assert_eq!(file.header.headroom, numbers.split(' ').nth(3).and_then(|number| number.parse().ok()));
+                assert_eq!(bytes_of(&file, reading), bytes.as_bytes());
+            }
+        }
+    }
+
     #[test]
     fn numbers() {
         for bad in ["-0", "-", "+1", "01", "", "1x", "123456789012", "-12345678901"] {
@@ -621,7 +680,7 @@ mod tests {
     #[test]
     fn numbers_that_would_wrap() {
         for number in ["65537", "4294967297"] {
-            for header in [format!("{number} 20 1"), format!("60 {number} 1"), format!("60 20 {number}")] {
+            for header in ["N 20 1", "60 N 1", "60 20 N", "60 20 1 N"].map(|form| form.replace('N', number)) {
                 assert_eq!(circuit(&format!("circuit {header}/")), Some((2, 1)), "{header}");
                 assert_eq!(schedule(&format!("schedule {header}/")), Some((2, 1)), "{header}");
             }
@@ -728,11 +787,11 @@ mod tests {
 
     #[test]
     fn the_longest_files() {
-        let circuit = format!("circuit\t60\t60\t60\n{}", "const\t4294967295\n".repeat(CIRCUIT_LINES));
-        assert_eq!(circuit.len(), 4_369);
+        let circuit = format!("circuit\t60\t60\t60\t60\n{}", "const\t4294967295\n".repeat(CIRCUIT_LINES));
+        assert_eq!(circuit.len(), 4_372);
         let Ok(file) = file_of(circuit.as_bytes(), Reading::Circuit) else { panic!("refused") };
         assert_eq!(bytes_of(&file, Reading::Circuit), circuit.as_bytes());
-        let schedule = format!("schedule\t60\t60\t60\n{}", "const\t4294967295\n".repeat(SCHEDULE_LINES));
+        let schedule = format!("schedule\t60\t60\t60\t60\n{}", "const\t4294967295\n".repeat(SCHEDULE_LINES));
         assert_eq!(schedule.len(), TEXT_BYTES);
         let Ok(file) = file_of(schedule.as_bytes(), Reading::Schedule) else { panic!("refused") };
         assert_eq!(bytes_of(&file, Reading::Schedule), schedule.as_bytes());

@@ -4,4 +4,11 @@ use Rattle.erasing.proofs.same_header.Statement.{statement}
 use Rattle.erasing.proofs.same_header.Tie as tie
 
 pub same-header-spec : {M : Type 1} → statement M
-same-header-spec = tie.close (tie.spec (λ c. search header-laws) (λ c. search header-laws) (λ c. search header-laws))
+same-header-spec =
+    tie.close
+    (tie.spec
+    (λ c. search header-laws)
+    (λ c. search header-laws)
+    (λ c. search header-laws)
+    (λ c κs. search header-laws)
+    (λ c. search header-laws))

@@ -10,6 +10,7 @@ use Rattle.fields.specs.Numbers.{decimal, amountText}
 use Rattle.model.specs.declared.Grammar.{Grammar}
 use Rattle.model.specs.declared.Grammar.the-variants.{Circuit, Schedule}
 use Rattle.model.specs.declared.Header.{Header}
+use Rattle.model.specs.declared.Headroom.the-variants.{None, Given}
 use Rattle.model.specs.declared.Line as Lines
 use Rattle.model.specs.declared.Line.{Line}
 use Rattle.model.specs.declared.Word.{Word}
@@ -19,7 +20,7 @@ use Rattle.model.specs.Files.{File}
 use Rattle.rows.specs.Lines.{textOf}
 use Rattle.rows.specs.Rows.{Reading, read, refused, rowsFrom}
 use Rattle.text.specs.declared.Context.{Context}
-use Rattle.text.specs.Files.{headerWord, lineForm, format, readText, circuitContext, scheduleContext, eraseContext}
+use Rattle.text.specs.Files.{headerWord, lineForm, format, readText, fileText, circuitContext, scheduleContext, eraseContext}
 
 -- fields as a closed line, and a word's bytes
 abbrev fieldsText : List Bytes → Bytes
@@ -32,7 +33,7 @@ abbrev header : Grammar → Bytes
 header g = fieldsText (headerWord g ∷ decimal 60 ∷ decimal 20 ∷ decimal 2 ∷ [])
 
 abbrev numbers : Header
-numbers = record { factor = 60; waterline = 20; top = 2 }
+numbers = record { factor = 60; waterline = 20; top = 2; headroom = None }
 
 -- after the header `circuit 60 20 2`, and after `schedule 60 20 2`
 abbrev circuit : Bytes → Reading File
@@ -71,7 +72,14 @@ abbrev headed : ℕ → ℕ → ℕ → Reading File
 headed f w l = readText circuitContext (fieldsText (headerWord Circuit ∷ decimal f ∷ decimal w ∷ decimal l ∷ []))
 
 abbrev with-header : ℕ → ℕ → ℕ → Reading File
-with-header f w l = read (record { header = record { factor = f; waterline = w; top = l }; lines = [] })
+with-header f w l = read (record { header = record { factor = f; waterline = w; top = l; headroom = None }; lines = [] })
+
+-- with a fourth field
+abbrev headed-with : Bytes → Reading File
+headed-with field = readText circuitContext (fieldsText (headerWord Circuit ∷ decimal 60 ∷ decimal 20 ∷ decimal 2 ∷ field ∷ []))
+
+abbrev with-headroom : ℕ → Reading File
+with-headroom bits = read (record { header = record { factor = 60; waterline = 20; top = 2; headroom = Given bits }; lines = [] })
 
 -- 256 lines that are kept
 abbrev kept-lines : Bytes
@@ -105,7 +113,20 @@ pub record Statement : Type 0 where
   pub top-over : headed 60 20 61 ≡ refused 2 1
   pub header-form-first : readText circuitContext (fieldsText (headerWord Circuit ∷ decimal 61 ∷ decimal 20 ∷ leading-zero ∷ [])) ≡ refused 1 1
   pub header-two-numbers : readText circuitContext (fieldsText (headerWord Circuit ∷ decimal 60 ∷ decimal 20 ∷ [])) ≡ refused 1 1
-  pub header-four-numbers : readText circuitContext (fieldsText (headerWord Circuit ∷ decimal 60 ∷ decimal 20 ∷ decimal 2 ∷ decimal 2 ∷ [])) ≡ refused 1 1
+  -- document 02, Job 3: "a fourth number H, …, from 1 to 60"
+  pub headroom-least : headed-with (decimal 1) ≡ with-headroom 1
+  pub headroom-most : headed-with (decimal 60) ≡ with-headroom 60
+  pub headroom-zero : headed-with (decimal 0) ≡ refused 2 1
+  pub headroom-over : headed-with (decimal 61) ≡ refused 2 1
+  pub headroom-empty : headed-with [] ≡ refused 1 1
+  pub headroom-zero-first : headed-with leading-zero ≡ refused 1 1
+  pub headroom-form-first : readText circuitContext (fieldsText (headerWord Circuit ∷ decimal 61 ∷ decimal 20 ∷ decimal 2 ∷ [] ∷ [])) ≡ refused 1 1
+  pub headroom-others-ranged : readText circuitContext (fieldsText (headerWord Circuit ∷ decimal 61 ∷ decimal 20 ∷ decimal 2 ∷ decimal 5 ∷ [])) ≡ refused 2 1
+  pub headroom-schedule : readText scheduleContext (fieldsText (headerWord Schedule ∷ decimal 60 ∷ decimal 20 ∷ decimal 2 ∷ decimal 5 ∷ [])) ≡ with-headroom 5
+  pub header-five-numbers : readText circuitContext (fieldsText (headerWord Circuit ∷ decimal 60 ∷ decimal 20 ∷ decimal 2 ∷ decimal 5 ∷ decimal 5 ∷ [])) ≡ refused 1 1
+  pub headroom-written : fileText Circuit (record { header = record { factor = 60; waterline = 20; top = 2; headroom = Given 5 }; lines = [] })
+      ≡ fieldsText (headerWord Circuit ∷ decimal 60 ∷ decimal 20 ∷ decimal 2 ∷ decimal 5 ∷ [])
+  pub none-written : fileText Circuit (record { header = numbers; lines = [] }) ≡ header Circuit
   pub header-then-line : readText circuitContext (fieldsText (headerWord Circuit ∷ decimal 61 ∷ decimal 20 ∷ decimal 2 ∷ []) ++ fieldsText []) ≡ refused 2 1
   -- ---- the form of a line
   pub unclosed : circuit (wordText In) ≡ refused 1 2

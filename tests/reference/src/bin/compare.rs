@@ -1,7 +1,7 @@
 //! Compares the archive and the yardstick with the reference on seeded random cases, and fails where too little was tried. `--case K` runs one
 //! case again and shows it.
 
-use reference::both::{Both, Runs, Searches, Trips};
+use reference::both::{Both, Halves, Runs, Searches, Trips};
 use reference::coverage::{Asked, Coverage};
 use reference::kinds::{run, Kind, KINDS};
 use reference::random::Random;
@@ -19,7 +19,7 @@ const BLOCK: u64 = 100;
 const MOST_GIVEN_UP: u64 = 20;
 const PROGRESS: Duration = Duration::from_secs(5);
 /// What a run must have tried, whatever its number of cases.
-const ASKED: Asked = Asked { replies: 200, conversions: 5000, limits: 20, buffers: 5000, only_plan: false };
+const ASKED: Asked = Asked { replies: 200, conversions: 5000, limits: 20, buffers: 3000, only_plan: false };
 /// What each kind of case must have been replied: numbers, and how often at least.
 fn asked_of(kind: Kind) -> (&'static [usize], u64) {
     match kind {
@@ -41,7 +41,7 @@ fn asked_of(kind: Kind) -> (&'static [usize], u64) {
     }
 }
 
-/// The searches of each answer, the runs of each end and the trips from each dialect.
+/// The searches of each answer, with an H too, the runs of each end, the lines beside half their modulus and the trips from each dialect.
 const ASKED_SHARP: u64 = 1000;
 
 struct Options {
@@ -73,6 +73,7 @@ struct Count {
     coverage: Coverage,
     searches: Searches,
     runs: Runs,
+    halves: Halves,
     trips: Trips,
 }
 
@@ -83,6 +84,7 @@ impl Count {
         self.coverage.add(&other.coverage);
         self.searches.add(&other.searches);
         self.runs.add(&other.runs);
+        self.halves.add(&other.halves);
         self.trips.add(&other.trips);
     }
 }
@@ -115,8 +117,8 @@ fn run_case(seed: u64, case: u64, show: bool) -> (Result<(), String>, Count) {
     // Guard bytes have a generator of their own: they do not move the case.
     let mut both = Both::new(Random::new(!seed, case), show);
     let result = run(case, &mut random, &mut both);
-    let Both { calls, coverage, searches, runs, trips, .. } = both;
-    (result, Count { cases: 1, calls, coverage, searches, runs, trips })
+    let Both { calls, coverage, searches, runs, halves, trips, .. } = both;
+    (result, Count { cases: 1, calls, coverage, searches, runs, halves, trips })
 }
 
 fn run_one(seed: u64, case: u64) -> ExitCode {
@@ -212,6 +214,24 @@ fn print_kind(kind: Kind, count: &Count) -> bool {
     !asked.iter().any(|&number| is_short(number))
 }
 
+/// Prints the searches, the runs and the trips, and says whether there are enough of each.
+fn print_sharp(all: &Count) -> bool {
+    let Searches { exists, none, gave_up, exists_with_headroom, none_with_headroom } = all.searches;
+    println!("exhaustive searches: {exists} found a schedule, {none} found that there is none, {gave_up} gave up");
+    println!("  with H: {exists_with_headroom} found a schedule, {none_with_headroom} found that there is none");
+    let Runs { to_the_end, stopped } = all.runs;
+    println!("scale machine: {to_the_end} runs to the end, {stopped} stopped");
+    let Halves { below, greatest, reached } = all.halves;
+    println!("circuit lines with H: {below} of numbers below 2^(H - 1) hold numbers below half their modulus");
+    println!("  where scale + H = F l: {greatest} with 2^(H - 1) - 1 are below half, {reached} with 2^(H - 1) are half");
+    let Trips { of_listing, of_schedule } = all.trips;
+    println!("there and back: {of_listing} listings without ds, {of_schedule} schedules");
+    let searched = [exists, none, exists_with_headroom, none_with_headroom];
+    let others = [to_the_end, stopped, below, greatest, reached, of_listing, of_schedule];
+    let is_decided = gave_up * MOST_GIVEN_UP <= exists + none + gave_up;
+    is_decided && searched.iter().chain(&others).all(|&count| count >= ASKED_SHARP)
+}
+
 /// Prints what was tried, and fails where it is too little.
 fn print_counts(counts: &Counts) -> ExitCode {
     let mut all = Count::default();
@@ -220,16 +240,10 @@ fn print_counts(counts: &Counts) -> ExitCode {
         enough &= print_kind(kind, count);
         all.add(count);
     }
-    let Searches { exists, none, gave_up } = all.searches;
-    let Runs { to_the_end, stopped } = all.runs;
-    println!("exhaustive searches: {exists} found a schedule, {none} found that there is none, {gave_up} gave up");
-    println!("scale machine: {to_the_end} runs to the end, {stopped} stopped");
-    let Trips { of_listing, of_schedule } = all.trips;
-    println!("there and back: {of_listing} listings without ds, {of_schedule} schedules");
+    enough &= print_sharp(&all);
     enough &= all.coverage.print(&ASKED);
-    let sharp = [exists, none, to_the_end, stopped, of_listing, of_schedule].iter().all(|&count| count >= ASKED_SHARP);
-    if !enough || !sharp || gave_up * MOST_GIVEN_UP > exists + none + gave_up {
-        println!("compare: no difference, but too little was tried: see the counts marked !, the searches and the runs");
+    if !enough {
+        println!("compare: no difference, but too little was tried: see the counts marked !, the searches, the runs, the lines with H and the trips");
         return ExitCode::FAILURE;
     }
     println!("compare: {} cases, {} calls, no difference", all.cases, all.calls);

@@ -16,7 +16,7 @@ const SEED: u64 = 20_260_101;
 /// What a run must have tried, whatever its number of inputs. The program has room for every plan.
 const ASKED: Asked = Asked { replies: 10, conversions: 50, limits: 1, buffers: 0, only_plan: true };
 /// The longest circuit has so many bytes.
-const CIRCUIT_BYTES: usize = 4_369;
+const CIRCUIT_BYTES: usize = 4_372;
 /// So many bytes decide, since a line of the form has at most 28; the program need not read more. So many inputs must be longer.
 const DECIDING_BYTES: usize = CIRCUIT_BYTES + 28;
 const ASKED_LONG: u64 = 50;
@@ -26,7 +26,7 @@ const STRIDE: usize = 1_009;
 const FAR: usize = 16_384;
 /// Lengths around the longest circuit, around the bytes that decide, and around what a program may have room for.
 const LENGTHS: [usize; 17] =
-    [4_095, 4_096, 4_097, 4_368, 4_369, 4_370, 4_379, 4_380, 4_395, 4_396, 4_397, 4_398, 4_399, 4_400, 4_401, 4_402, 8_192];
+    [4_095, 4_096, 4_097, 4_371, 4_372, 4_373, 4_380, 4_397, 4_398, 4_399, 4_400, 4_401, 4_402, 4_607, 4_608, 4_609, 8_192];
 
 /// What planning makes of an input, counted.
 fn count(input: &[u8], coverage: &mut Coverage) {
@@ -48,9 +48,9 @@ fn limit_inputs() -> Vec<Vec<u8>> {
     circuits.filter(|circuit| known.insert(circuit.clone())).filter(is_at_limit).collect()
 }
 
-/// A circuit that reads, of exactly so many bytes: constants of ten digits, and the last ones shorter.
+/// A circuit that reads, of exactly so many bytes: a header with an H, constants of ten digits, and the last ones shorter.
 fn circuit_of_length(length: usize) -> Vec<u8> {
-    let mut text = b"circuit\t60\t60\t60\n".to_vec();
+    let mut text = b"circuit\t60\t60\t60\t60\n".to_vec();
     // A `const` line has 8 to 17 bytes.
     while text.len() < length {
         let left = length - text.len();
@@ -84,7 +84,7 @@ fn long_inputs() -> Vec<Vec<u8>> {
         list.push(filled(&one_less, b"const\t4", b"\n"));
         list.push(filled(&one_less, b"1", b""));
         list.push(filled(&[&one_less[..], b"mul\t99999999999\t99999999999\n"].concat(), b"in\n", b""));
-        list.push(filled(b"circuit\t60\t60\t6", b"0", b"\n"));
+        list.push(filled(b"circuit\t60\t60\t60\t6", b"0", b"\n"));
     }
     let far = list.iter().map(|input| [&input[..], &b"in\n".repeat(FAR / 3)].concat()).collect::<Vec<_>>();
     list.into_iter().chain(far).collect()

@@ -1,5 +1,6 @@
 //! Damaged texts of every kind.
 
+use super::files;
 use crate::random::Random;
 use crate::text::{CIRCUIT_LINES, SCHEDULE_LINES};
 
@@ -201,18 +202,20 @@ fn damage_field(random: &mut Random, text: &[u8]) -> Vec<u8> {
     lines.concat()
 }
 
-/// The last number that is taken at some place of the line, or the first that is not.
-fn limit_field(random: &mut Random, fields: &mut [Vec<u8>]) {
+/// The last number that is taken at some place of the line, or the first that is not; a header without an H may get one.
+fn limit_field(random: &mut Random, fields: &mut Vec<Vec<u8>>) {
     let (place, numbers): (usize, &[&str]) = match &fields[0][..] {
-        b"circuit" | b"schedule" | b"rising" => (1 + random.below(3), &["0", "1", "60", "61"]),
+        b"circuit" | b"schedule" | b"rising" => (1 + random.below(4), &["0", "1", "60", "61"]),
         b"const" => (1, &["65535", "65536", "4294967295", "4294967296"]),
         b"rot" => (2, &["32767", "32768", "-32767", "-32768"]),
         b"us" | b"enc" => (2, &["3600", "3601"]),
         b"rs" | b"ms" => (2, &["60", "61"]),
         _ => return,
     };
-    if let Some(field) = fields.get_mut(place) {
-        *field = random.pick(numbers).as_bytes().to_vec();
+    let number = random.pick(numbers).as_bytes().to_vec();
+    match fields.get_mut(place) {
+        Some(field) => *field = number,
+        None => fields.push(number),
     }
 }
 
@@ -237,7 +240,8 @@ pub fn soup(random: &mut Random, header_word: &str) -> Vec<u8> {
     let mut text = Vec::new();
     if random.percent(95) {
         let [factor, waterline, top_level] = [(); 3].map(|()| random.between(1, 60));
-        text = format!("{header_word}\t{factor}\t{waterline}\t{top_level}\n").into_bytes();
+        let headroom = files::headroom(random).map_or(String::new(), |headroom| format!("\t{headroom}"));
+        text = format!("{header_word}\t{factor}\t{waterline}\t{top_level}{headroom}\n").into_bytes();
     }
     let lines = 1 + random.below(12);
     match random.below(10) {

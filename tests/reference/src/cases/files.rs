@@ -47,7 +47,27 @@ pub fn header(random: &mut Random) -> Header {
         6 => [x, random.between(1, 1 + x / 4), z],
         _ => [x.max(30), random.between(1, 30), 60],
     };
-    Header { factor, waterline, top_level }
+    Header { factor, waterline, top_level, headroom: headroom(random) }
+}
+
+/// None in half of the headers; else small ones mostly, ends of the range, and any.
+pub fn headroom(random: &mut Random) -> Option<i32> {
+    match random.below(12) {
+        0..=5 => None,
+        6..=8 => Some(random.between(1, 8)),
+        9 => Some(random.pick(&[1, 2, 59, 60])),
+        _ => Some(random.between(1, 60)),
+    }
+}
+
+/// Sets H at or near the least of the best reserves, where the sharp cases lie; another one is left where no H is near.
+pub fn set_headroom_near_best(random: &mut Random, circuit: &mut File) {
+    let without = Header { headroom: None, ..circuit.header };
+    let least = plan::best_reserves(&without, circuit.lines()).into_iter().flatten().min();
+    let headroom = least.map_or(0, |least| least + random.pick(&[-1, 0, 0, 1]));
+    if (1..=60).contains(&headroom) {
+        circuit.header.headroom = Some(headroom);
+    }
 }
 
 /// Sets the top level at or near the least one, where the sharp cases lie.
@@ -94,13 +114,17 @@ pub fn circuit_of_size(random: &mut Random, size: usize) -> File {
         let slack = random.between(0, 4);
         set_level_near_least(random, &mut circuit, slack);
     }
+    if random.percent(25) {
+        set_headroom_near_best(random, &mut circuit);
+    }
     circuit
 }
 
 /// A circuit for the exhaustive search: few lines, small numbers.
 pub fn tiny_circuit(random: &mut Random, most_lines: usize, most_levels: i32) -> File {
-    let header =
-        Header { factor: random.between(1, 6), waterline: random.between(1, 6), top_level: random.between(1, most_levels) };
+    let [factor, waterline] = [(); 2].map(|()| random.between(1, 6));
+    let headroom = if random.percent(50) { Some(random.between(1, 6)) } else { None };
+    let header = Header { factor, waterline, top_level: random.between(1, most_levels), headroom };
     let leaning = Leaning { products: random.pick(&[40, 60, 80]), inputs: 12, ..leaning(random, 0) };
     let size = random.below(most_lines + 1);
     Maker::new(random, leaning, header, false).make(size)
@@ -113,7 +137,7 @@ pub fn schedule(random: &mut Random) -> File {
 
 /// A listing of the form, in half of the cases without `ds`.
 pub fn listing(random: &mut Random) -> File {
-    let downscales = random.pick(&[0, 0, 20, 60]);
+    let downscales = random.pick(&[0, 0, 40, 80]);
     let mut listing = schedule_with(random, downscales);
     for n in 0..listing.lines().len() {
         listing.replace(n, rising::turned(&listing.header, listing.lines()[n]));

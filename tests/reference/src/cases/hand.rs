@@ -72,8 +72,8 @@ impl Hand<'_> {
             }
         };
         let number = self.schedule.push(line);
-        // A result below zero is illegal already; the rest goes on from a spot that can be written.
-        let result = if step.result.reserve < 0 { self.lowest() } else { step.result };
+        // A result below zero, or below H, is illegal already; the rest goes on from a spot that can be written.
+        let result = if step.result.reserve < self.header.headroom_bits() { self.lowest() } else { step.result };
         self.own.push((number, Some(result)));
         self.holders.push(vec![(number, result)]);
         self.add_unused_line();
@@ -81,14 +81,18 @@ impl Hand<'_> {
 
     /// A spot with nothing to spend.
     fn lowest(&self) -> Spot {
-        let level = (self.header.waterline + self.header.factor - 1) / self.header.factor;
-        Spot { reserve: 0, level: level.max(1) }
+        let reserve = self.header.headroom_bits();
+        let level = (self.header.waterline + reserve + self.header.factor - 1) / self.header.factor;
+        Spot { reserve, level: level.max(1) }
     }
 
     /// Another level and other spots for the operands, and mostly no reserve lost by it.
     fn vary(&mut self, line: Line, planned: Step) -> Step {
         if self.random.percent(40) {
             return planned;
+        }
+        if matches!(line, Line::Out { .. }) && self.random.percent(60) {
+            return self.spent(planned.result);
         }
         let operands = match line {
             Line::Add { a, b } | Line::Mul { a, b } => vec![a, b],
@@ -107,7 +111,8 @@ impl Hand<'_> {
         let first = reserve(operands[0]);
         let second = operands.get(1).map_or(first, |&operand| reserve(operand));
         let varied = meet(&self.header, line, first, second, level);
-        let fits = first >= 0 && second >= 0 && varied.result.reserve >= 0;
+        let least = first.min(second).min(varied.result.reserve);
+        let fits = least >= self.header.headroom_bits();
         if fits && (wasteful || varied.result.reserve >= planned.result.reserve) {
             varied
         } else {
@@ -115,11 +120,18 @@ impl Hand<'_> {
         }
     }
 
+    /// All reserve of an output spent, since nothing names it: then scale + H is F·level.
+    fn spent(&mut self, at: Spot) -> Step {
+        let lowest = self.lowest();
+        let spot = Spot { level: self.random.between(lowest.level, at.level), ..lowest };
+        Step { operands: [spot; 2], result: spot }
+    }
+
     /// The line that brings a circuit value to a spot.
     fn operand(&mut self, value: u16, to: Spot) -> u16 {
         let (own, spot) = self.own[usize::from(value)];
         let Some(spot) = spot else { return self.encoded(value, to) };
-        if to.reserve < 0 || to.level > spot.level || to.reserve > spot.reserve || to.level < 1 {
+        if to.reserve < self.header.headroom_bits() || to.level > spot.level || to.reserve > spot.reserve || to.level < 1 {
             return own;
         }
         if !self.has_room(2 * WANDERING) {
@@ -319,12 +331,7 @@ pub fn other_circuit(random: &mut Random, circuit: &File) -> File {
     let mut other = circuit.clone();
     let count = other.lines().len();
     match random.below(5) {
-        0 => {
-            let header = &mut other.header;
-            let number = random.pick(&[0, 1, 2]);
-            let slot = [&mut header.factor, &mut header.waterline, &mut header.top_level].into_iter().nth(number);
-            slot.into_iter().for_each(|slot| *slot = if *slot == 60 { 59 } else { *slot + 1 });
-        }
+        0 => other.header = other_header(random, other.header),
         1 => other.cut(count.saturating_sub(1 + random.below(3))),
         2 if count < 256 => {
             other.push(Line::In);
@@ -346,4 +353,17 @@ pub fn other_circuit(random: &mut Random, circuit: &File) -> File {
         _ => {}
     }
     other
+}
+
+/// One number moved by one, or an H given or taken away.
+fn other_header(random: &mut Random, header: Header) -> Header {
+    let moved = |number: i32| if number == 60 { 59 } else { number + 1 };
+    match random.below(6) {
+        0 => Header { factor: moved(header.factor), ..header },
+        1 => Header { waterline: moved(header.waterline), ..header },
+        2 => Header { top_level: moved(header.top_level), ..header },
+        3 if header.headroom.is_some() => Header { headroom: header.headroom.map(moved), ..header },
+        _ if header.headroom.is_some() => Header { headroom: None, ..header },
+        _ => Header { headroom: Some(random.between(1, 60)), ..header },
+    }
 }

@@ -34,14 +34,18 @@ fn size(random: &mut Random) -> usize {
 
 /// Headers at which several downscales in a row are legal, and any.
 fn header(random: &mut Random) -> Header {
+    let any = files::header(random);
     match random.below(4) {
-        0 => Header { factor: 60, waterline: 20, top_level: random.between(1, 8) },
-        1 => Header { factor: random.between(20, 60), waterline: random.between(1, 60), top_level: random.between(2, 60) },
+        0 => Header { factor: 60, waterline: 20, top_level: random.between(1, 8), ..any },
+        1 => {
+            let (factor, waterline) = (random.between(20, 60), random.between(1, 60));
+            Header { factor, waterline, top_level: random.between(2, 60), ..any }
+        }
         2 => {
             let factor = random.between(1, 60);
-            Header { factor, waterline: (factor + random.between(-1, 1)).clamp(1, 60), top_level: random.between(1, 4) }
+            Header { factor, waterline: (factor + random.between(-1, 1)).clamp(1, 60), top_level: random.between(1, 4), ..any }
         }
-        _ => files::header(random),
+        _ => any,
     }
 }
 
@@ -54,7 +58,9 @@ pub fn legal(random: &mut Random) -> File {
 pub fn legal_of_size(random: &mut Random, size: usize) -> File {
     // A long listing with many downscales has too many lines after its conversion: both sides of that limit are wanted.
     let (header, downscales) = if size > 800 {
-        (Header { factor: 60, waterline: 20, top_level: random.between(2, 60) }, random.pick(&[0, 80, 95, 95]))
+        // At level 2 a `ds` leaves 40 bits.
+        let headroom = if random.percent(50) { Some(random.between(1, 40)) } else { None };
+        (Header { factor: 60, waterline: 20, top_level: random.between(2, 60), headroom }, random.pick(&[0, 80, 95, 95]))
     } else {
         (header(random), random.pick(&[0, 10, 30, 60]))
     };
@@ -143,9 +149,10 @@ impl Maker<'_> {
 
     /// An upscale to one of the sharp scales, or one or two rescales or modswitches.
     fn conversion(&mut self, a: u16, at: Standing) -> Line {
-        let Header { factor, waterline, top_level } = self.listing.header;
+        let Header { factor, waterline, top_level, .. } = self.listing.header;
         let count = self.random.pick(&[1, 1, 1, 2]);
-        let sharp = [waterline + factor - 1, waterline + factor, factor * (top_level - at.level), at.scale + 1, 2 * waterline];
+        let highest = factor * (top_level - at.level) - self.listing.header.headroom_bits();
+        let sharp = [waterline + factor - 1, waterline + factor, highest, at.scale + 1, 2 * waterline];
         match self.random.below(4) {
             0 => Line::Rescale { a, count },
             1 => Line::Modswitch { a, count },
