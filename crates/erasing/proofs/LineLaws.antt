@@ -14,7 +14,7 @@ use Rattle.model.specs.Files.{isWord}
 use Rattle.model.specs.Services.{kept, madeFrom, fateOf, renamed}
 use Rattle.model.proofs.EveryWord.{each-line}
 use Rattle.tables.specs.Records.{lineOf, linesOf, isStruck}
-use Rattle.tables.specs.Operands.{firstOperand, secondOperand, withOperands}
+use Rattle.operands.specs.Operands.{firstOperand, secondOperand, withOperands}
 use Rattle.tables.proofs.Words.{record-held}
 use Rattle.erasing.specs.Lines.{keptAs, struckFrom, erasedBy}
 

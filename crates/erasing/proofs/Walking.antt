@@ -19,8 +19,8 @@ use Rattle.model.proofs.Tests.{below-or-not}
 use Rattle.model.proofs.Formed.{LineFacts, formed-index, well-lines}
 use Rattle.text.proofs.Tables.{table-length}
 use Rattle.tables.specs.Records.{lineOf, linesOf, linesHeld, held, isStruck}
-use Rattle.tables.specs.Operands.{firstOperand, secondOperand, withOperands}
-use Rattle.tables.proofs.Operands.{operand-below}
+use Rattle.operands.specs.Operands.{firstOperand, secondOperand, withOperands}
+use Rattle.operands.proofs.Operands.{operand-below}
 use Rattle.tables.proofs.HeldLines.{formed-few, formed-long, records-long, next-line, no-line}
 use Rattle.erasing.specs.declared.Erased.{Erased}
 use Rattle.erasing.specs.declared.Erased.the-variants.{Kept, Struck}

@@ -8,7 +8,7 @@ use Rattle.model.specs.declared.Line.{Line}
 use Rattle.model.specs.declared.Grammar.the-variants.{Schedule}
 use Rattle.text.specs.Tables.{TableFormed}
 use Rattle.tables.specs.Records.{lineOf, held, isStruck}
-use Rattle.tables.specs.Operands.{firstOperand, secondOperand, withOperands}
+use Rattle.operands.specs.Operands.{firstOperand, secondOperand, withOperands}
 use Rattle.erasing.specs.declared.Erased.{Erased}
 use Rattle.erasing.specs.declared.Erased.the-variants.{Kept, Struck}
 

@@ -14,7 +14,7 @@ ghost use Rattle.model.specs.Services.{erase};
 ghost use Rattle.model.specs.Scales.{headroomNumbers};
 ghost use Rattle.model.specs.Answers.{sameNumbers, sameHeader, rulesAnswer, check};
 ghost use Rattle.text.specs.Tables.{TableFormed, fileOf};
-ghost use Rattle.tables.specs.Operands.{firstOperand, secondOperand};
+ghost use Rattle.operands.specs.Operands.{firstOperand, secondOperand};
 ghost use Rattle.tables.specs.Records.{lineOf, linesOf, linesHeld, freeRecords, held};
 ghost use Rattle.erasing.specs.Comparing.{afterCompared, beginWith};
 ghost use Rattle.erasing.specs.Lines.{IsSchedule, erasedTo, erasedBy};
@@ -35,14 +35,14 @@ fn erase_line(origins: &[u16; 1792], schedule: &[Record], i: usize) -> Erased
     ensures { λ r. ⌜ erasedTo r ≡ erasedBy (now (origins .entry)) (getD (linesOf (now (schedule .entry))) i Free) ⌝ }
 {
     let record = schedule[i];
-    let a = tables::first_of(record);
-    let b = tables::second_of(record);
+    let a = operands::first_of(record);
+    let b = operands::second_of(record);
     let first = origins[a as usize];
     let second = origins[b as usize];
     if tables::struck_at(schedule, i) {
         return Erased::Struck(first);
     }
-    let kept = tables::renamed(record, first, second);
+    let kept = operands::renamed(record, first, second);
     Erased::Kept {
         number: kept[0],
         a: kept[1],

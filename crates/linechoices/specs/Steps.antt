@@ -9,7 +9,7 @@ use Rattle.model.specs.declared.Best.{Best}
 use Rattle.model.specs.Scales.{headerInRange}
 use Rattle.model.specs.Machine.{Step, goes, stops, step}
 use Rattle.model.specs.Plan.{choiceOf, bestMachine}
-use Rattle.tables.specs.Operands.{withOperands}
+use Rattle.operands.specs.Operands.{withOperands}
 use Rattle.choices.specs.Ranges.{Small}
 use Rattle.conversions.specs.declared.Operand.{Operand}
 use Rattle.conversions.specs.Operands.{bestOf}

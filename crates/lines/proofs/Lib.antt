@@ -3,4 +3,3 @@ mod LevelLaws
 mod HeldLaws
 mod AskedLaws
 mod ReadLaws
-mod HeaderLaws

@@ -1,6 +1,5 @@
 // Reading one line of a file where it stands in the text: to the numbers of its record, or to a refusal's number and place. Of the lines before
 // it no more is asked than the kinds of those that it names.
-pub mod headers;
 
 use forms::NumbersAt;
 use judging::LineRead;

@@ -20,7 +20,7 @@ use Rattle.model.proofs.Tests.{below-or-not}
 use Rattle.text.specs.Tables.{TableFormed}
 use Rattle.listings.specs.Held.{isDownscale, named, countedTable, convertHeldFrom, convertHeld}
 use Rattle.tables.specs.Records.{lineOf, linesOf, linesHeld, freeRecords, held}
-use Rattle.tables.specs.Operands.{firstOperand, secondOperand, withOperands}
+use Rattle.operands.specs.Operands.{firstOperand, secondOperand, withOperands}
 use Rattle.tables.proofs.Records.{free-long}
 use Rattle.tables.proofs.HeldLines.{records-long, stored-lines}
 use Rattle.erasing.proofs.LineLaws.{renamed-is, origin-held}

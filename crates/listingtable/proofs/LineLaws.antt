@@ -23,7 +23,7 @@ use Rattle.model.specs.Files.{nth, said, isWord}
 use Rattle.model.proofs.Tests.{and-first, and-second, or-cases, header-facts}
 use Rattle.listings.specs.Held.{isDownscale}
 use Rattle.tables.specs.Records.{wordFrom, lineFrom, lineOf, linesOf}
-use Rattle.tables.specs.Operands.{firstOperand, secondOperand, withOperands}
+use Rattle.operands.specs.Operands.{firstOperand, secondOperand, withOperands}
 use Rattle.tables.proofs.Words.{record-held, word-with}
 use Rattle.listingtable.specs.Conversion.{LineReady, oneLine, twoLines, convertedBy}
 

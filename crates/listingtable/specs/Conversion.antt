@@ -14,7 +14,7 @@ use Rattle.model.specs.Scales.{headerInRange}
 use Rattle.model.specs.Files.{limit, isWord}
 use Rattle.listings.specs.Held.{isDownscale, convertHeld}
 use Rattle.tables.specs.Records.{lineOf, linesOf, linesHeld}
-use Rattle.tables.specs.Operands.{firstOperand, secondOperand, withOperands}
+use Rattle.operands.specs.Operands.{firstOperand, secondOperand, withOperands}
 use Rattle.listingtable.specs.declared.Becomes.{Becomes}
 use Rattle.listingtable.specs.declared.Becomes.the-variants.{One, Two}
 use Rattle.listingtable.specs.declared.Converted.{Converted}

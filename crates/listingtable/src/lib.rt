@@ -53,8 +53,8 @@ fn convert_line(
     ensures { λ r. ⌜ becomesLines r ≡ convertedBy header (now (scales .entry)) (now (names .entry)) (getD (linesOf (now (listing .entry))) i Free) ⌝ }
 {
     let record = listing[i];
-    let a = tables::first_of(record);
-    let b = tables::second_of(record);
+    let a = operands::first_of(record);
+    let b = operands::second_of(record);
     let first = names[a as usize];
     if is_downscale(record) {
         let scale = scales[a as usize];
@@ -62,7 +62,7 @@ fn convert_line(
         return Becomes::Two { of: first, bits };
     }
     let second = names[b as usize];
-    let renamed = tables::renamed(record, first, second);
+    let renamed = operands::renamed(record, first, second);
     Becomes::One {
         number: renamed[0],
         a: renamed[1],

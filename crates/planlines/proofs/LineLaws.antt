@@ -11,7 +11,7 @@ use Rattle.model.specs.declared.Header.{Header}
 use Rattle.model.specs.declared.Line.{Line}
 use Rattle.model.specs.declared.Choice.{Choice}
 use Rattle.model.specs.Plan.{Draft, emit}
-use Rattle.tables.specs.Operands.{withOperands}
+use Rattle.operands.specs.Operands.{withOperands}
 use Rattle.tables.specs.Records.{linesHeld}
 use Rattle.conversions.specs.declared.Drafted.{Drafted}
 use Rattle.conversions.specs.declared.Operand.{Operand}

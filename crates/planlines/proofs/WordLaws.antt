@@ -28,9 +28,9 @@ use Rattle.model.proofs.Chosen.{unlessTooFew-elim}
 use Rattle.model.proofs.Supplies.{few-bits, Valid, ValidBest}
 use Rattle.model.proofs.Supplies as Supplies
 use Rattle.model.proofs.Meets.{Meets, meets-one, meets-sum, meets-times-constant, meets-constant-times, meets-product}
-use Rattle.tables.specs.declared.OperandsOf.{OperandsOf}
-use Rattle.tables.specs.declared.OperandsOf.the-variants.{None, One, Two}
-use Rattle.tables.specs.Operands.{operandsIn}
+use Rattle.operands.specs.declared.OperandsOf.{OperandsOf}
+use Rattle.operands.specs.declared.OperandsOf.the-variants.{None, One, Two}
+use Rattle.operands.specs.Operands.{operandsIn}
 use Rattle.conversions.specs.declared.Drafted.{Drafted}
 use Rattle.conversions.specs.declared.Operand.{Operand}
 use Rattle.conversions.specs.Drafts.{Wrote}

@@ -12,7 +12,7 @@ use Rattle.model.specs.declared.Best.{Best}
 use Rattle.model.specs.Scales.{headerInRange, headroom}
 use Rattle.model.specs.Machine.{goes}
 use Rattle.model.specs.Plan.{Draft, emit, choiceOf, planLine}
-use Rattle.tables.specs.Operands.{withOperands}
+use Rattle.operands.specs.Operands.{withOperands}
 use Rattle.choices.specs.Ranges.{Small}
 use Rattle.conversions.specs.declared.Operand.{Operand}
 use Rattle.conversions.specs.Operands.{bestOf, supplied}

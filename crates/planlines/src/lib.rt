@@ -4,7 +4,7 @@ use conversions::Operand;
 use model::Choice;
 use model::Header;
 use model::Line;
-use tables::OperandsOf;
+use operands::OperandsOf;
 use tables::Record;
 ghost use mathlib.Core.Path.{_≡_};
 ghost use Prim.Native.Nat.{_+_};
@@ -27,7 +27,7 @@ fn plan_one(
     ensures { λ r. ⌜ Wrote (withOne header choice line first (linesHeld (now (schedule .entry)) count)) (count + 4) r (now (schedule .exit)) ⌝ }
 {
     let one = conversions::put_operand(header, schedule, count, first, choice.first, choice.level);
-    let named = tables::with_operands(line, one.number, 0);
+    let named = operands::with_operands(line, one.number, 0);
     conversions::put(schedule, one.count, named)
 }
 
@@ -54,7 +54,7 @@ fn plan_two(
         choice.second,
         choice.level,
     );
-    let named = tables::with_operands(line, one.number, two.number);
+    let named = operands::with_operands(line, one.number, two.number);
     conversions::put(schedule, two.count, named)
 }
 
@@ -72,7 +72,7 @@ pub fn plan_line(
     requires { ⌜ DoneAs header line first second choice ⌝ }
     ensures { λ r. ⌜ Wrote (lineOn header choice line first second (linesHeld (now (schedule .entry)) count)) (count + 7) r (now (schedule .exit)) ⌝ }
 {
-    match tables::operands_of(line) {
+    match operands::operands_of(line) {
         OperandsOf::None => conversions::put(schedule, count, line),
         OperandsOf::One(_) => plan_one(header, schedule, count, line, choice, first),
         OperandsOf::Two(_, _) => plan_two(header, schedule, count, line, choice, first, second),

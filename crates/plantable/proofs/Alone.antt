@@ -19,7 +19,7 @@ use Rattle.model.specs.Machine.{Step, goes, stops, step}
 use Rattle.model.specs.Plan.{Draft, emit, supply, choiceOf, bestMachine, planLine, planOne, planTwo}
 use Rattle.model.proofs.Tests.{and-first, and-second}
 use Rattle.model.proofs.Outcomes.{Outcome, outcome-found}
-use Rattle.tables.specs.Operands.{firstOperand, secondOperand}
+use Rattle.operands.specs.Operands.{firstOperand, secondOperand}
 use Rattle.conversions.specs.declared.Operand.{Operand}
 use Rattle.conversions.specs.Operands.{bestOf, supplied}
 use Rattle.linechoices.specs.Steps.{stepOn}

@@ -41,7 +41,7 @@ use Rattle.model.proofs.Outcomes.{Outcome}
 use Rattle.model.proofs.Supplies.{few-bits, ValidBest, kindFor}
 use Rattle.model.proofs.Planned.{Whole, planned}
 use Rattle.text.specs.Tables.{TableFormed, fileOf}
-use Rattle.tables.specs.Operands.{firstOperand, secondOperand}
+use Rattle.operands.specs.Operands.{firstOperand, secondOperand}
 use Rattle.tables.specs.Records.{lineOf, linesOf, linesHeld, freeRecords, held}
 use Rattle.tables.proofs.Records.{free-long}
 use Rattle.choices.specs.Ranges.{Small}

@@ -77,8 +77,8 @@ pub fn plan_table(
     let mut i: usize = 0;
     while i < size {
         let line = tables::line_at(circuit, i);
-        let a = tables::first_operand(line);
-        let b = tables::second_operand(line);
+        let a = operands::first_operand(line);
+        let b = operands::second_operand(line);
         let first = operand_at(circuit, i, &reserves, &levels, &numbers, a);
         let second = operand_at(circuit, i, &reserves, &levels, &numbers, b);
         let LineChoice::Done(choice) = linechoices::choice_of(header, line, first, second) else {

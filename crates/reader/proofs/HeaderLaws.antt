@@ -18,9 +18,9 @@ use Rattle.text.specs.declared.Context.{Context}
 use Rattle.listings.specs.declared.Levels.{Levels}
 use Rattle.forms.specs.Along.{lineIn, isClosed, afterLine}
 use Rattle.forms.proofs.TextLaws.{Past, past-line}
-use Rattle.lines.specs.declared.headers.HeaderRead.{HeaderRead}
-use Rattle.lines.specs.declared.headers.HeaderRead.the-variants.{Head, Bad}
-use Rattle.lines.specs.Lines.{headerFormOf, headerRead, headerTo, headerJudged}
+use Rattle.headers.specs.declared.HeaderRead.{HeaderRead}
+use Rattle.headers.specs.declared.HeaderRead.the-variants.{Head, Bad}
+use Rattle.headers.specs.Headers.{headerFormOf, headerRead, headerTo, headerJudged}
 use Rattle.reader.specs.declared.FileRead.{FileRead}
 use Rattle.reader.specs.declared.FileRead.the-variants.{Refused}
 use Rattle.reader.specs.Reads.{restFrom, readingHeld, readBy, readingOf}

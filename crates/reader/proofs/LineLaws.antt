@@ -34,7 +34,8 @@ use Rattle.forms.proofs.WordLaws.{first-piece}
 use Rattle.forms.proofs.TextLaws.{lines-closed, lines-open, line-open}
 use Rattle.words.specs.Words.{orNoWord, wordIn, vocabularyOf, listedIn, heldWord}
 use Rattle.words.proofs.WordLaws.{named-listed, listed-kept}
-use Rattle.lines.specs.Lines.{heldAs, testedAs, listedTests, lineFormOf, lineJudged, headerJudged}
+use Rattle.headers.specs.Headers.{headerJudged}
+use Rattle.lines.specs.Lines.{heldAs, testedAs, listedTests, lineFormOf, lineJudged}
 use Rattle.reader.specs.Reads.{pastLimits, keptWith, formatOf, nextLine, restFrom, readingHeld, readBy}
 
 -- ---- kept lines

@@ -19,7 +19,8 @@ use Rattle.listings.specs.Listings.{Listed, Listing}
 use Rattle.listings.specs.Held.{heldReading}
 use Rattle.forms.specs.Along.{lineIn}
 use Rattle.tables.specs.Records.{held}
-use Rattle.lines.specs.Lines.{heldAs, testedAs, listedTests, lineFormOf, headerFormOf, lineJudged}
+use Rattle.headers.specs.Headers.{headerFormOf}
+use Rattle.lines.specs.Lines.{heldAs, testedAs, listedTests, lineFormOf, lineJudged}
 use Rattle.reader.specs.declared.FileRead.{FileRead}
 use Rattle.reader.specs.declared.FileRead.the-variants.{Table, Refused}
 

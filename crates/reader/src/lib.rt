@@ -1,6 +1,6 @@
 // Reads a text into a table in one pass: the header line, then one line after another until the first that is refused.
+use headers::HeaderRead;
 use judging::LineRead;
-use lines::headers::HeaderRead;
 use listings::Levels;
 use model::Grammar;
 use model::Header;
@@ -101,7 +101,7 @@ pub fn read_file(levels: Levels, context: Context, text: &[u8], records: &mut [R
     ensures filled { λ r. ⌜ Filled (context .limit) r (now (records .exit)) ⌝ }
 {
     let grammar = context.grammar;
-    match lines::headers::read_header(levels, grammar, text) {
+    match headers::read_header(levels, grammar, text) {
         HeaderRead::Bad { number, place } => FileRead::Refused { number, place },
         HeaderRead::Head { header, end } => read_lines(levels, context, header, text, end, records),
     }

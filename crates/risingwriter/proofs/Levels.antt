@@ -24,7 +24,7 @@ use Rattle.model.proofs.Formed.{well-header, well-lines, formed-index}
 use Rattle.text.specs.Tables.{TableFormed}
 use Rattle.listings.specs.Listings.{turned}
 use Rattle.tables.specs.Records.{lineFrom, lineWith, lineOf, linesOf, linesHeld, held}
-use Rattle.tables.proofs.Renaming.{past-words, each-number}
+use Rattle.operands.proofs.Renaming.{past-words, each-number}
 use Rattle.tables.proofs.HeldLines.{formed-few, formed-long, lines-set, stored-lines}
 use Rattle.tables.proofs.Words.{record-held}
 

@@ -33,7 +33,7 @@ use Rattle.bounds.specs.declared.Ruled.the-variants.{Goes, Stops}
 use Rattle.linerules.specs.declared.Held.{Held}
 use Rattle.bounds.specs.Bounded.{SmallRuled}
 use Rattle.linerules.specs.Ruled.{ruledBy, Small}
-use Rattle.tables.specs.Operands.{firstOperand, secondOperand}
+use Rattle.operands.specs.Operands.{firstOperand, secondOperand}
 use Rattle.tables.specs.Records.{linesOf, linesHeld, held}
 use Rattle.rules.specs.Scales.{noScales, ScalesLeft}
 use Rattle.rules.proofs.Counted.{same-counted, counted, counted-few, records-room, lines-long, header-formed, counted-is, counted-facts, before-long, named-below}

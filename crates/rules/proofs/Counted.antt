@@ -27,7 +27,7 @@ use Rattle.text.specs.Tables.{Table, tableLines, TableFormed}
 use Rattle.text.proofs.Tables.{table-length}
 use Rattle.listings.specs.Held.{countedLine, countedTable, downscaled, heldMachine, heldAnswer}
 use Rattle.tables.specs.Records.{lineOf, linesOf, linesHeld, held}
-use Rattle.tables.proofs.Operands.{operand-below}
+use Rattle.operands.proofs.Operands.{operand-below}
 use Rattle.linerules.proofs.LineLaws.{rescale-counted}
 
 -- ---- a line with a count

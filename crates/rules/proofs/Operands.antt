@@ -32,7 +32,7 @@ use Rattle.bounds.specs.declared.Ruled.the-variants.{Goes, Stops}
 use Rattle.linerules.specs.declared.Held.{Held}
 use Rattle.bounds.specs.Bounded.{ruledUnless, boundedNumbers}
 use Rattle.linerules.specs.Ruled.{movedBy, sumOf, productOf, downscaledOf, ruledBy}
-use Rattle.tables.specs.Operands.{firstOperand, secondOperand}
+use Rattle.operands.specs.Operands.{firstOperand, secondOperand}
 use Rattle.rules.proofs.Counted.{same-counted, counted-operands}
 
 -- what line a holds, by the scales and levels of all

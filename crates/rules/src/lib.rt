@@ -27,8 +27,8 @@ pub fn rules_answer(
     let mut i: usize = 0;
     while i < count {
         let line = tables::line_at(schedule, i);
-        let a = tables::first_operand(line) as usize;
-        let b = tables::second_operand(line) as usize;
+        let a = operands::first_operand(line) as usize;
+        let b = operands::second_operand(line) as usize;
         let first = Held {
             scale: scales[a],
             level: levels[a],

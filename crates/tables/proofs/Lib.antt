@@ -1,7 +1,5 @@
 pub mod Amounts
 pub mod HeldLines
-pub mod Operands
 pub mod Records
-pub mod Renaming
 pub mod Sameness
 pub mod Words
