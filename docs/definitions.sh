@@ -8,7 +8,8 @@ cd "$(dirname "${BASH_SOURCE[0]}")/../crates"
 definitions() {
   for file in fields/specs/{Pieces,Numbers}.antt rows/specs/{Fields,Forms,Lines,Rows}.antt ints/specs/Parts.antt \
     model/specs/{Scales,Words,Files,Machine,Rules,Machines,Plan,Services,Broken,Demands}.antt text/specs/Files.antt \
-    listings/specs/{Listings,Rules,Broken,Conversion}.antt services/specs/{Outcomes,Promises,Listings}.antt risingwriter/specs/GoingOut.antt; do
+    listings/specs/{Listings,Rules,Broken,Conversion}.antt services/specs/{Outcomes,Promises,Listings}.antt risingwriter/specs/GoingOut.antt \
+    prices/specs/Prices.antt quotes/specs/Quotes.antt; do
     printf '%5d  crates/%s\n' "$(grep -cvE '^[[:space:]]*(--.*|(pub |unfoldable )*use .*)?$' "$file")" "$file"
   done
 }
@@ -22,6 +23,7 @@ fields/src/lib.rt Field Amount
 model/src/lib.rt Headroom Header Word Line Grammar Kind Choice Best
 text/src/lib.rt Context
 services/src/lib.rt Reply
+quotes/src/lib.rt QuoteReply
 TYPES
 }
 

@@ -1,5 +1,5 @@
-/* Plans document 01's listing, checks the plan, erases it, asks for the least level and shows two refusals; then takes a listing in the
- * rising-level dialect and gives one. Each reply is tested. */
+/* Quotes document 01's listing, plans it in a buffer of just the quoted bytes, checks the plan, erases it, asks for the least level and shows
+ * two refusals; then takes a listing in the rising-level dialect and gives one. Each reply is tested. */
 #include "../include/gowashiru.h"
 #include <stdio.h>
 #include <string.h>
@@ -25,8 +25,20 @@ static int refused(const char *call, struct gowashiru_reply reply) {
     return 1;
 }
 
+/* The price is known before anything is planned, and so are the bytes to lend: one less would be refused with 13. */
+static int show_quote(const uint8_t *text, size_t length, struct gowashiru_quote_reply *quote) {
+    *quote = gowashiru_quote(text, length);
+    if (refused("quote", (struct gowashiru_reply){quote->number, quote->file, quote->place, 0}))
+        return 1;
+    printf("price %u, for a plan of %u lines and %u bytes\n", quote->price, quote->lines, quote->bytes);
+    return 0;
+}
+
 static int plan_and_check(const uint8_t *text, size_t length) {
-    struct gowashiru_reply planned = gowashiru_plan(text, length, plan, sizeof plan);
+    struct gowashiru_quote_reply quote;
+    if (show_quote(text, length, &quote))
+        return 1;
+    struct gowashiru_reply planned = gowashiru_plan(text, length, plan, quote.bytes);
     if (refused("plan", planned))
         return 1;
     printf("%.*s", (int)planned.length, (const char *)plan);

@@ -1,7 +1,7 @@
 /*
  * gowashiru.h: a proved scale planner for RNS-CKKS circuits.
  *
- * Six calls on bytes. No heap, no global state, reentrant: calls from several threads do not meet. Every input gets one
+ * Seven calls on bytes. No heap, no global state, reentrant: calls from several threads do not meet. Every input gets one
  * reply and every call ends; what is promised of the replies stands in docs/PROMISES.md and is proved.
  *
  * A circuit, a schedule or a listing in the rising-level dialect is text: one record a line, fields parted by one tab, every line closed
@@ -24,18 +24,19 @@ extern "C" {
 #endif
 
 /* The version of this header and of the command; the pkg-config file has it too. */
-#define GOWASHIRU_VERSION "0.4.0"
+#define GOWASHIRU_VERSION "0.5.0"
 
 /* A buffer of so many bytes is enough for every plan, which is proved, for every erasure, which is a circuit and has at most 4,372,
- * and for every conversion: a schedule has at most 30,485 and a listing at most 30,483. */
+ * and for every conversion: a schedule has at most 30,485 and a listing at most 30,483. How many bytes a circuit's own plan has,
+ * gowashiru_quote says. */
 #define GOWASHIRU_ENOUGH_BYTES 131072
 
 /* The largest number of a constant; the least is 0. A host that keeps its constants under numbers of its own, say a catalogue's,
  * holds one in a uint32_t. A larger one is refused with 11, and one of more than 11 digits with 1. */
 #define GOWASHIRU_MOST_CONSTANT 4294967295u
 
-/* The stack to give a thread. At most 39,736 bytes were measured on x86-64 (from rising; check 39,672, erase 32,792,
- * plan 31,320, to rising 21,800, least level 15,864) by tests/host/stack.c, on full files with the longest numbers in them. */
+/* The stack to give a thread. At most 39,736 bytes were measured on x86-64 (from rising; check 39,672, quote 34,744,
+ * erase 32,792, plan 31,080, to rising 21,800, least level 15,864) by tests/host/stack.c, on full files with the longest numbers in them. */
 #define GOWASHIRU_STACK_BYTES 131072
 
 /* What the number of a reply says. The numbers do not change. */
@@ -93,6 +94,35 @@ struct gowashiru_reply gowashiru_erase(const uint8_t *schedule, size_t schedule_
 /* The least top level at which a circuit has a schedule, as length. The header's own level is only tested for its range; its H holds at
  * each level that is tried. Refuses with 1 to 6, 11. */
 struct gowashiru_reply gowashiru_least_level(const uint8_t *circuit, size_t circuit_len);
+
+/*
+ * A quote: number, file and place are as in gowashiru_reply. On success lines, bytes and price are those of the circuit's plan: its
+ * lines, the header's among them, the bytes of its text, and its price. On a refusal the three are 0.
+ *
+ * The price is a sum over the plan's lines. A line costs its number below times the level of its operand before the line, an enc times
+ * its own E; an rs or ms by C costs so at each of the levels l, l - 1, ..., l - C + 1. Every price fits a uint32_t, which is proved.
+ */
+struct gowashiru_quote_reply {
+    uint32_t number, file, place, lines, bytes, price;
+};
+
+/* Price per level at which an operation starts; in, const and out have none. */
+enum gowashiru_price {
+    GOWASHIRU_PRICE_MUL = 40,               /* mul of two ciphertexts */
+    GOWASHIRU_PRICE_ROT = 32,
+    GOWASHIRU_PRICE_RS = 6,
+    GOWASHIRU_PRICE_MUL_WITH_CONSTANT = 4,  /* mul of a ciphertext and an encoded constant, in either place */
+    GOWASHIRU_PRICE_US = 4,
+    GOWASHIRU_PRICE_ENC = 2,
+    GOWASHIRU_PRICE_ADD = 1,                /* with a constant too */
+    GOWASHIRU_PRICE_NEG = 1,
+    GOWASHIRU_PRICE_MS = 1
+};
+
+/* Quotes a circuit: lines, bytes and price of what gowashiru_plan would write, which is not written. Each is what counting over the
+ * written plan gives. A buffer of `bytes` is the shortest that gowashiru_plan takes for this circuit. Where the circuit cannot be
+ * planned, the refusal is gowashiru_plan's own. Refuses with 1 to 6, 11. */
+struct gowashiru_quote_reply gowashiru_quote(const uint8_t *circuit, size_t circuit_len);
 
 /* Makes a schedule of a listing in the rising-level dialect, which has levels that count up from 0 and `ds` lines: writes the schedule to
  * out. Refuses with 1 to 5, 7 to 11, 13, 14. */

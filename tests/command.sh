@@ -76,6 +76,21 @@ at_terminal() { # COMMAND KIND FILE
     grep -q "reading a $2 from the terminal; end it with Ctrl-D" "$room/out" || fail "no hint at a terminal: $tried"
 }
 
+# What is quoted for a circuit: the lines and the bytes of what plan prints, and this price.
+quotes() { # CIRCUIT PRICE
+    try 0 "$command" plan "$1" -o "$room/planned"
+    try 0 "$command" quote "$1"
+    says_nothing
+    prints <(printf 'lines\t%d\nbytes\t%d\nprice\t%d\n' "$(wc -l <"$room/planned")" "$(wc -c <"$room/planned")" "$2")
+}
+
+# What plan refuses is refused by quote at the same place and in the same words.
+quote_is_refused() { # NUMBER FILE PLACE, after plan
+    cp "$room/err" "$room/said"
+    refused "$1" "$2" "$3" "$command" quote "$2"
+    cmp -s "$room/err" "$room/said" || fail "does not say what plan says: $tried"
+}
+
 # ---- Every example
 
 try_circuit() { # NAME
@@ -83,6 +98,8 @@ try_circuit() { # NAME
     read -r word number place <"$1.plan"
     if [ "$word" = refused ]; then
         refused "$number" "$1.circuit" "$place" "$command" plan "$1.circuit"
+        cmp -s "$1.plan" "$1.quote" || fail "not the plan's refusal: $1.quote"
+        quote_is_refused "$number" "$1.circuit" "$place"
     else
         try 0 "$command" plan "$1.circuit"
         prints "$1.plan"
@@ -92,6 +109,10 @@ try_circuit() { # NAME
         prints_line passed
         try 0 "$command" erase "$1.plan"
         prints "$1.circuit"
+        quotes "$1.circuit" "$(sed -n 's/^price\t//p' "$1.quote")"
+        prints "$1.quote"
+        try 0 "$command" quote <"$1.circuit"
+        prints "$1.quote"
         try_picture "$1.plan"
         goes_out_and_back "$1.plan"
     fi
@@ -175,6 +196,7 @@ plan_says() { # NUMBER PLACE CIRCUIT TEXT...
     shift 3
     refused "$number" "$c" "$place" "$command" plan "$c"
     says "$@"
+    quote_is_refused "$number" "$c" "$place"
 }
 
 picture_says() { # NUMBER PLACE SCHEDULE TEXT...
@@ -462,9 +484,9 @@ h='circuit\t60\t20\t2\n'
 
 # ---- Constant numbers and headroom: every service gives them back as they are. A circuit and its plan are formats of printf.
 
-goes_through() { # LEAST_LEVEL CIRCUIT PLAN
-    printf "$2" >"$c"
-    printf "$3" >"$s"
+goes_through() { # LEAST_LEVEL PRICE CIRCUIT PLAN
+    printf "$3" >"$c"
+    printf "$4" >"$s"
     try 0 "$command" plan "$c"
     prints "$s"
     try 0 "$command" check "$c" "$s"
@@ -473,19 +495,21 @@ goes_through() { # LEAST_LEVEL CIRCUIT PLAN
     prints "$c"
     try 0 "$command" least-level "$c"
     prints_line "$1"
+    quotes "$c" "$2"
     goes_out_and_back "$s"
     try_picture "$s"
 }
 
 constants='in\nconst\t0\nconst\t65535\nconst\t65536\nconst\t4294967295\n'
-goes_through 1 "$h$constants"'mul\t0\t4\nadd\t3\t5\nout\t6\n' \
+# At level 2 two enc of 4, a product with a constant of 8 and a sum of 2.
+goes_through 1 18 "$h$constants"'mul\t0\t4\nadd\t3\t5\nout\t6\n' \
     'schedule\t60\t20\t2\n'"$constants"'enc\t4\t20\t2\nmul\t0\t5\nenc\t3\t40\t2\nadd\t7\t6\nout\t8\n'
 for shown in 0 65535 65536 4294967295; do
     grep -q ">$shown</text>" "$room/out" || fail "the picture does not show constant $shown"
 done
 # Scales that just fit with H: at L = 1 a best reserve of exactly H, at L = 2 an upscale and a rescale. The least level is one with H.
-goes_through 1 'circuit\t60\t20\t1\t20\nin\nmul\t0\t0\nout\t1\n' 'schedule\t60\t20\t1\t20\nin\nmul\t0\t0\nout\t1\n'
-goes_through 2 'circuit\t60\t20\t2\t21\nin\nmul\t0\t0\nout\t1\n' 'schedule\t60\t20\t2\t21\nin\nmul\t0\t0\nout\t1\n'
+goes_through 1 40 'circuit\t60\t20\t1\t20\nin\nmul\t0\t0\nout\t1\n' 'schedule\t60\t20\t1\t20\nin\nmul\t0\t0\nout\t1\n'
+goes_through 2 80 'circuit\t60\t20\t2\t21\nin\nmul\t0\t0\nout\t1\n' 'schedule\t60\t20\t2\t21\nin\nmul\t0\t0\nout\t1\n'
 printf 'circuit\t60\t20\t2\t5\nin\nout\t0\n' >"$c"
 printf 'schedule\t60\t20\t2\t5\nin\nus\t0\t95\nrs\t1\t1\nout\t2\n' >"$s"
 try 0 "$command" check "$c" "$s"
@@ -501,7 +525,7 @@ for shown in 'headroom H = 5' '>less H<' 'headroom H, which no scale takes up' '
 done
 # The longest circuit and the longest schedule that read.
 constants="$(lines 256 'const\t4294967295\n')"
-goes_through 1 'circuit\t60\t60\t60\t60\n'"$constants" 'schedule\t60\t60\t60\t60\n'"$constants"
+goes_through 1 0 'circuit\t60\t60\t60\t60\n'"$constants" 'schedule\t60\t60\t60\t60\n'"$constants"
 cp "$c" "$room/longest.circuit"
 cp "$s" "$room/longest.schedule"
 [ "$(wc -c <"$room/longest.circuit")" -eq 4372 ] || fail "the longest circuit has not 4,372 bytes"
@@ -512,6 +536,13 @@ printf 'schedule\t60\t60\t60\t60\n'"$constants" >"$s"
 [ "$(wc -c <"$s")" -eq 30485 ] || fail "the longest schedule has not 30,485 bytes"
 refused 12 "$room/longest.circuit" 258 "$command" check "$room/longest.circuit" "$s"
 says 'keeps more lines than a circuit may have'
+# A header alone, and rs and ms lines that give up several levels: enc 16, mul with it 32, two rs of 48 + 42, mul 240, rs 36 + 30, enc 8, add 4,
+# ms 8 + 7 + 6 + 5, mul 160.
+printf 'circuit\t60\t20\t2\n' >"$c"
+quotes "$c" 0
+prints <(printf 'lines\t1\nbytes\t17\nprice\t0\n')
+printf 'circuit\t10\t20\t8\nin\nconst\t7\nmul\t1\t0\nmul\t2\t2\nadd\t3\t1\nmul\t4\t0\n' >"$c"
+quotes "$c" 732
 # The longest lines that may stand in a listing and keep the rules.
 printf 'schedule\t60\t60\t60\t60\n'"$(lines 256 'const\t4294967295\n')$(lines 1536 'enc\t255\t2940\t50\n')" >"$s"
 goes_out_and_back "$s"
@@ -528,6 +559,19 @@ try 2 "$command" plan <"$room"
 says 'standard input: Is a directory'
 try 2 "$command" check "$good" "$room/none"
 says "$room/none: No such file"
+try 2 "$command" quote "$room/none"
+says "$room/none: No such file"
+prints_nothing
+try 2 "$command" quote <"$room"
+says 'standard input: Is a directory'
+try 2 "$command" quote <&-
+says 'standard input: it is closed'
+refused 1 /dev/zero 1 "$command" quote /dev/zero
+refused 3 'standard input' 258 "$command" quote < <(printf 'circuit\t60\t20\t2\n'; yes in)
+try 0 "$command" quote - <"$good"
+prints examples/listing.quote
+try 0 "$command" quote -- "$good"
+prints examples/listing.quote
 listing=examples/wavetables.downscaled
 for service in from-rising to-rising; do
     try 2 "$command" "$service" "$room/none"
@@ -559,6 +603,7 @@ prints examples/listing.plan
 try 0 "$command" plan -- "$good"
 prints examples/listing.plan
 at_terminal "$command plan" circuit "$good"
+at_terminal "$command quote" circuit "$good"
 at_terminal "$command from-rising" listing "$listing.rising"
 
 # ---- Writing
@@ -608,6 +653,17 @@ try 2 bash -c "'$command' from-rising $listing.rising >/dev/full"
 says 'standard output: No space left on device'
 try 2 bash -c "'$command' to-rising $listing.from_rising >&-"
 says 'standard output: it is closed'
+try 0 "$command" quote "$good" -o "$room/own"
+prints_nothing
+cmp -s "$room/own" examples/listing.quote || fail "not the quote: $tried"
+try 1 "$command" quote examples/power_16.circuit -o "$room/own"
+cmp -s "$room/own" examples/listing.quote || fail "a refusal wrote: $tried"
+try 2 bash -c "ulimit -f 0; exec '$command' quote examples/sobel.circuit -o '$room/own' 2>/dev/null"
+cmp -s "$room/own" examples/listing.quote || fail "a failed write changed the file: $tried"
+try 2 bash -c "'$command' quote $good >/dev/full"
+says 'standard output: No space left on device'
+try 2 bash -c "'$command' quote $good >&-"
+says 'standard output: it is closed'
 try 2 "$command" plan "$good" -o "$room"
 says 'Is a directory'
 try 2 "$command" plan "$good" -o "$room/none/x"
@@ -637,6 +693,10 @@ try 2 "$command" from-rising "$listing.rising" "$listing.rising"
 says 'one file too many'
 try 2 "$command" to-rising -x "$listing.from_rising"
 says 'no such option: -x' 'gowashiru to-rising --help'
+try 2 "$command" quote "$good" "$good"
+says 'one file too many' 'gowashiru quote --help'
+try 2 "$command" quote -x "$good"
+says 'no such option: -x' 'gowashiru quote --help'
 try 2 "$command" check "$good"
 says 'check needs two files'
 try 2 "$command" check - -
@@ -647,13 +707,23 @@ try 2 "$command" plan -o a -o b "$good"
 says '-o is given twice'
 try 0 "$command" --help
 says_nothing
-for name in plan check erase least-level from-rising to-rising picture; do
+for name in plan check erase least-level quote from-rising to-rising picture; do
     grep -q "^  $name " "$room/out" || fail "help leaves out $name"
 done
 grep -q 'H from 1 to 60' "$room/out" || fail "help leaves out H"
-for name in plan check erase least-level from-rising to-rising picture; do
+for name in plan check erase least-level quote from-rising to-rising picture; do
     try 0 "$command" "$name" --help
     grep -q "^usage: gowashiru $name " "$room/out" || fail "no usage: $tried"
+done
+# Each price of the header stands in the help and in the manual page.
+price_of() { # NAME
+    sed -n "s/^ *GOWASHIRU_PRICE_$1 = \([0-9]*\).*/\1/p" include/gowashiru.h
+}
+try 0 "$command" quote --help
+page="$(cat tools/gowashiru.1)"
+for price in "MUL:mul of two ciphertexts" ROT:rot RS:rs "MUL_WITH_CONSTANT:mul with a constant" US:us ENC:enc ADD:add NEG:neg MS:ms; do
+    grep -q "[ ,]${price#*:} $(price_of "${price%%:*}")\(,\|\$\)" "$room/out" || fail "help leaves out the price of ${price#*:}"
+    grep -qE "^(|.*, )${price#*:}(|, .*)\|$(price_of "${price%%:*}")\$" <<<"$page" || fail "the manual page leaves out the price of ${price#*:}"
 done
 version="$(sed -n 's/^.define GOWASHIRU_VERSION "\(.*\)"/\1/p' include/gowashiru.h)"
 try 0 "$command" --version
@@ -671,6 +741,7 @@ try 0 "$room/installed/opt/bin/gowashiru" plan "$good"
 prints examples/listing.plan
 grep -qx "Version: $version" "$room/installed/opt/lib/pkgconfig/gowashiru.pc" || fail "another version for pkg-config"
 grep -q 'headroom H' "$room/installed/opt/share/man/man1/gowashiru.1" || fail "no manual page that has H"
+grep -q '^.B gowashiru quote' "$room/installed/opt/share/man/man1/gowashiru.1" || fail "no manual page that has quote"
 [ -s "$room/installed/opt/share/doc/gowashiru/FORMAT.md" ] || fail "no page on the files"
 sed "s|\.\./include/||" examples/host.c >"$room/host.c"
 sed -i "s|^prefix=|&$room/installed|" "$room/installed/opt/lib/pkgconfig/gowashiru.pc"
@@ -787,6 +858,6 @@ try 2 env PATH="$room/bin:$bin_without_rt" "$copy/plan.sh" <"$good"
 prints_nothing
 says 'ints is not proved' 'plan cannot be built' 'target/build.log says why'
 
-expected=496
+expected=627
 [ "$count" -eq "$expected" ] || fail "$count cases, not $expected. If it is meant, store the number and say why in the commit."
 echo "command: $count cases as they should be"

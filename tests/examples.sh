@@ -19,6 +19,7 @@ for circuit in examples/*.circuit; do
     name="${circuit%.circuit}"
     same "$name.plan" target/tests/reply plan "$circuit"
     same "$name.least" target/tests/reply least "$circuit"
+    same "$name.quote" target/tests/reply quote "$circuit"
     same "$name.plan" target/bin/plan <"$circuit"
     if ! grep -q '^refused' "$name.plan"; then
         same <(echo passed) target/tests/reply check "$circuit" "$name.plan"

@@ -1,11 +1,11 @@
 #!/usr/bin/env bash
 # Runs every example of docs/FORMAT.md and README.md on the archive and compares every byte. A block marked `circuit`, `schedule` or `rising` is a file, one
-# marked `sh` prints one; `plan`, `check`, `erase`, `least-level`, `from-rising` and `to-rising` have what is replied on the last circuit, schedule or listing,
-# a check on the last circuit and schedule; a file that is replied is the last of its kind. `c` is a program and `prints` its output; a block marked `console`
+# marked `sh` prints one; `plan`, `check`, `erase`, `least-level`, `quote`, `from-rising` and `to-rising` have what is replied on the last circuit, schedule or
+# listing, a check on the last circuit and schedule; a file that is replied is the last of its kind. `c` is a program and `prints` its output; a block marked `console`
 # is not run. The pages' pictures are drawn anew. The archive is built before.
 set -euo pipefail
 cd "$(dirname "${BASH_SOURCE[0]}")/.."
-replies_stored=74
+replies_stored=76
 folder=target/tests/format
 rm -rf "$folder"
 mkdir -p "$folder"
@@ -71,6 +71,7 @@ for block in "$folder"/*; do
         take "$block"
         ;;
     least-level) same least_level "$circuit" ;;
+    quote) same target/tests/reply quote "$circuit" ;;
     c)
         gcc -std=c11 -Wall -Wextra -Werror -O2 -Iinclude -x c -o "$folder/program" "$block" -x none target/staticlib/libgowashiru.a
         "$folder/program" >"$folder/printed" || fail "the program fails"
@@ -87,7 +88,7 @@ for picture in "${plans[0]} first_circuit" "examples/listing.plan listing" "exam
     same ./gowashiru picture "${picture% *}"
 done
 for number in $(seq 14); do
-    grep -q "^refused	$number	" "$folder"/FORMAT.md:*.{plan,check,erase,least-level,from-rising,to-rising,prints} || fail "no example of refusal $number"
+    grep -q "^refused	$number	" "$folder"/FORMAT.md:*.{plan,check,erase,least-level,quote,from-rising,to-rising,prints} || fail "no example of refusal $number"
 done
 [ "$count" = "$replies_stored" ] || fail "$count replies, and $replies_stored are stored in tests/format.sh"
 echo "format: $count replies of the pages as they should be, each refusal among them"

@@ -8,6 +8,7 @@
 #include <string.h>
 
 typedef struct gowashiru_reply reply;
+typedef struct gowashiru_quote_reply quote_reply;
 
 reply yardstick_plan(const uint8_t *circuit, size_t circuit_len, uint8_t *out, size_t out_len);
 reply yardstick_check(const uint8_t *circuit, size_t circuit_len, const uint8_t *schedule, size_t schedule_len);
@@ -15,6 +16,7 @@ reply yardstick_erase(const uint8_t *schedule, size_t schedule_len, uint8_t *out
 reply yardstick_least_level(const uint8_t *circuit, size_t circuit_len);
 reply yardstick_from_rising(const uint8_t *listing, size_t listing_len, uint8_t *out, size_t out_len);
 reply yardstick_to_rising(const uint8_t *schedule, size_t schedule_len, uint8_t *out, size_t out_len);
+quote_reply yardstick_quote(const uint8_t *circuit, size_t circuit_len);
 
 enum {
     CIRCUIT_LINES = 256,
@@ -290,9 +292,13 @@ FOR_EACH_KIND reply read_file(const uint8_t *bytes, size_t length, enum reading 
 
 /* Writing. */
 
+static inline uint32_t digits_of(uint32_t number) {
+    return number < 10 ? 1 : number < 100 ? 2 : number < 1000 ? 3 : number < 10000 ? 4 : 5;
+}
+
 /* A number of at most five digits. */
 static inline uint8_t *put_digits(uint8_t *at, uint32_t number) {
-    uint32_t digits = number < 10 ? 1 : number < 100 ? 2 : number < 1000 ? 3 : number < 10000 ? 4 : 5;
+    uint32_t digits = digits_of(number);
     for (uint32_t i = digits; i-- > 0; number /= 10)
         at[i] = (uint8_t)('0' + number % 10);
     return at + digits;
@@ -437,29 +443,37 @@ static inline uint32_t put_struck(struct draft *draft, enum word word, uint32_t 
     return draft->next++;
 }
 
-/* "Bringing a value from (r, l) to (r′, l′)": the number of the line that holds it there. A constant is encoded. */
+/* "Bringing a value from (r, l) to (r′, l′)": its modswitches, the bits that it is raised by and its rescales, each 0 where there are none. */
+struct way {
+    int32_t modswitches, bits, rescales;
+};
+
+static inline struct way way_to(const struct header *header, const struct value *from, int32_t reserve, int32_t level) {
+    int32_t factor = header->factor, spent = from->reserve - reserve, levels = from->level - level;
+    int32_t modswitches = 0;
+    if (spent >= factor && levels > 0)
+        modswitches = spent / factor < levels ? spent / factor : levels;
+    return (struct way){modswitches, spent - modswitches * factor, levels - modswitches};
+}
+
+/* The number of the line that holds a value brought there. A constant is encoded. */
 static inline uint32_t bring(struct draft *draft, const struct header *header, const struct value *from, int32_t reserve, int32_t level) {
     uint32_t number = from->number;
-    int32_t factor = header->factor;
     if (from->reserve == constant.reserve) {
         draft->at = put_word(draft->at, ENC);
         draft->at = put_number(draft->at, number);
-        draft->at = put_number(draft->at, (uint32_t)(factor * level - reserve));
+        draft->at = put_number(draft->at, (uint32_t)(header->factor * level - reserve));
         draft->at = put_number(draft->at, (uint32_t)level);
         *draft->at++ = '\n';
         return draft->next++;
     }
-    int32_t spent = from->reserve - reserve, levels = from->level - level;
-    int32_t switches = 0;
-    if (spent >= factor && levels > 0) {
-        switches = spent / factor < levels ? spent / factor : levels;
-        number = put_struck(draft, MS, number, switches);
-        spent -= switches * factor;
-    }
-    if (spent)
-        number = put_struck(draft, US, number, spent);
-    if (levels > switches)
-        number = put_struck(draft, RS, number, levels - switches);
+    struct way way = way_to(header, from, reserve, level);
+    if (way.modswitches)
+        number = put_struck(draft, MS, number, way.modswitches);
+    if (way.bits)
+        number = put_struck(draft, US, number, way.bits);
+    if (way.rescales > 0)
+        number = put_struck(draft, RS, number, way.rescales);
     return number;
 }
 
@@ -508,6 +522,116 @@ reply yardstick_plan(const uint8_t *bytes, size_t bytes_len, uint8_t *out, size_
         values[n] = (struct value){step.reserve, step.lowest, step.level, number};
     }
     return lend(text, draft.at, out, out_len);
+}
+
+/* Quoting: the plan's walk, in which each line is counted and none is written. */
+
+/* "Price per level at which an operation starts"; a mul with a constant has its own. */
+static const uint8_t prices[] = {[NEG] = 1, [ROT] = 32, [ADD] = 1, [MUL] = 40, [ENC] = 2, [RS] = 6, [MS] = 1, [US] = 4};
+enum { PRICE_WITH_CONSTANT = 4 };
+
+/* The schedule so far, its header among the lines. */
+struct count {
+    uint32_t lines, bytes, price;
+};
+
+/* A line of so many bytes and of this price: its number. */
+static inline uint32_t count_line(struct count *count, uint32_t bytes, uint32_t price) {
+    count->bytes += bytes;
+    count->price += price;
+    return count->lines++ - 1;
+}
+
+/* rs or ms: "Each of the C rescales or modswitches is priced at its own level", l, l − 1 and on to l − C + 1. */
+static inline uint32_t count_steps(struct count *count, enum word word, uint32_t a, uint32_t steps, uint32_t level) {
+    uint32_t levels = steps * (2 * level + 1 - steps) / 2;
+    return count_line(count, 5 + digits_of(a) + digits_of(steps), prices[word] * levels);
+}
+
+/* The lines that bring a value, as `bring` writes them. */
+static inline uint32_t count_brought(struct count *count, const struct header *header, const struct value *from, int32_t reserve,
+                                     int32_t level) {
+    uint32_t number = from->number;
+    if (from->reserve == constant.reserve) {
+        uint32_t scale = (uint32_t)(header->factor * level - reserve), at = (uint32_t)level;
+        return count_line(count, 7 + digits_of(number) + digits_of(scale) + digits_of(at), prices[ENC] * at);
+    }
+    struct way way = way_to(header, from, reserve, level);
+    uint32_t modswitches = (uint32_t)way.modswitches, bits = (uint32_t)way.bits, at = (uint32_t)from->level;
+    if (modswitches)
+        number = count_steps(count, MS, number, modswitches, at);
+    at -= modswitches;
+    if (bits)
+        number = count_line(count, 5 + digits_of(number) + digits_of(bits), prices[US] * at);
+    if (way.rescales > 0)
+        number = count_steps(count, RS, number, (uint32_t)way.rescales, at);
+    return number;
+}
+
+/* A constant number: at most five digits, or at most five and then five. */
+static inline uint32_t count_constant(struct count *count, const struct line *line) {
+    uint32_t number = line->first | (uint32_t)line->second << 16;
+    return count_line(count, 7 + (number < 100000 ? digits_of(number) : 5 + digits_of(number / 100000)), 0);
+}
+
+/* A tab, a minus where there is one, and the digits. */
+static inline uint32_t rotation_bytes(int32_t rotation) {
+    return rotation < 0 ? 2 + digits_of((uint32_t)-rotation) : 1 + digits_of((uint32_t)rotation);
+}
+
+/* The schedule's line for a circuit's line, after the lines that bring its operands. */
+static inline uint32_t count_planned(struct count *count, const struct header *header, const struct line *line, const struct value *values,
+                                     const struct step *step) {
+    uint32_t price = prices[line->word] * (uint32_t)step->level;
+    if (line->word == IN)
+        return count_line(count, 3, price);
+    const struct value *first = &values[line->first];
+    uint32_t bytes = 5 + digits_of(count_brought(count, header, first, step->first, step->level));
+    if (line->word == ROT)
+        bytes += rotation_bytes((int16_t)line->second);
+    if (line->word == ADD || line->word == MUL) {
+        const struct value *second = &values[line->second];
+        bytes += 1 + digits_of(count_brought(count, header, second, step->second, step->level));
+        bool with_constant = first->reserve == constant.reserve || second->reserve == constant.reserve;
+        if (line->word == MUL && with_constant)
+            price = PRICE_WITH_CONSTANT * (uint32_t)step->level;
+    }
+    return count_line(count, bytes, price);
+}
+
+static inline uint32_t header_bytes(const struct header *header) {
+    uint32_t numbers = digits_of((uint32_t)header->factor) + digits_of((uint32_t)header->waterline) + digits_of((uint32_t)header->top_level);
+    uint32_t headroom = header->headroom ? 1 + digits_of((uint32_t)header->headroom) : 0;
+    return (uint32_t)strlen("schedule") + 3 + numbers + headroom + 1;
+}
+
+/* The planner's own refusal. */
+static inline quote_reply quote_refused(reply own) {
+    return (quote_reply){own.number, own.file, own.place, 0, 0, 0};
+}
+
+quote_reply yardstick_quote(const uint8_t *bytes, size_t bytes_len) {
+    struct line lines[CIRCUIT_LINES];
+    struct value values[CIRCUIT_LINES];
+    struct file circuit = {.lines = lines};
+    reply read = read_file(bytes, bytes_len, CIRCUIT, 1, &circuit);
+    if (read.number)
+        return quote_refused(read);
+    struct count count = {1, header_bytes(&circuit.header), 0};
+    for (uint32_t n = 0; n < circuit.count; n++) {
+        const struct line *line = &lines[n];
+        if (line->word == CONST) {
+            values[n] = constant;
+            values[n].number = count_constant(&count, line);
+            continue;
+        }
+        struct step step = step_of(&circuit.header, line, values);
+        if (step.reserve < circuit.header.headroom)
+            return quote_refused(refused(6, 1, n + 2));
+        uint32_t number = count_planned(&count, &circuit.header, line, values, &step);
+        values[n] = (struct value){step.reserve, step.lowest, step.level, number};
+    }
+    return (quote_reply){0, 0, 0, count.lines, count.bytes, count.price};
 }
 
 /* The first line with a best reserve below zero, or below H, or the number of lines. */

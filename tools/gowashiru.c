@@ -30,6 +30,14 @@ static const struct command commands[] = {
      "usage: gowashiru least-level [-o FILE] [CIRCUIT]\n\n"
      "Prints the least top level L at which the circuit has a schedule. The header's own L is only tested for its range.\n"
      "Its H, where it has one, holds at each level that is tried.\n"},
+    {"quote", 0, 1, run_quote,
+     "usage: gowashiru quote [-o FILE] [CIRCUIT]\n\n"
+     "Prints the lines, the bytes and the price of a circuit's schedule without writing it. Lines, the header's among them,\n"
+     "and bytes are those that `gowashiru plan` prints. Refused as plan is.\n"
+     "The price is the sum over the lines. For each level that its operand has before the line, a line costs:\n\n"
+     "  mul of two ciphertexts 40, rot 32, rs 6, mul with a constant 4, us 4, enc 2, add 1, neg 1, ms 1\n\n"
+     "An enc costs so for each level of its own E, and an rs or ms by C as much as C of them in a row, each a level lower.\n"
+     "In, const and out cost nothing.\n"},
     {"from-rising", 0, 1, run_from_rising,
      "usage: gowashiru from-rising [-o FILE] [LISTING]\n\n"
      "Prints the schedule of a listing in the rising-level dialect, where levels count up from 0 and `ds A` brings a\n"
@@ -50,6 +58,7 @@ static const char help[] =
     "  check CIRCUIT SCHEDULE    print `passed` if the schedule keeps the rules and erases to the circuit\n"
     "  erase [SCHEDULE]          print the circuit of a schedule\n"
     "  least-level [CIRCUIT]     print the least top level L at which the circuit has a schedule\n"
+    "  quote [CIRCUIT]           print the lines, bytes and price of a circuit's schedule without writing it\n"
     "  from-rising [LISTING]     print the schedule of a listing in the rising-level dialect\n"
     "  to-rising [SCHEDULE]      print a schedule as a listing in the rising-level dialect\n"
     "  picture [SCHEDULE]        print an SVG of a schedule's scales and levels\n\n"

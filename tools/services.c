@@ -71,6 +71,18 @@ enum status run_least_level(const struct arguments *arguments) {
     return written(arguments, text, (size_t)length);
 }
 
+enum status run_quote(const struct arguments *arguments) {
+    if (!read_file(&first, arguments->names[0]))
+        return FAILED;
+    struct gowashiru_quote_reply quote = gowashiru_quote(first.bytes, first.length);
+    if (quote.number != GOWASHIRU_DONE)
+        return refused((struct gowashiru_reply){quote.number, quote.file, quote.place, 0}, &first);
+    char text[64];
+    int length = snprintf(text, sizeof text, "lines\t%" PRIu32 "\nbytes\t%" PRIu32 "\nprice\t%" PRIu32 "\n", quote.lines, quote.bytes,
+                          quote.price);
+    return written(arguments, text, (size_t)length);
+}
+
 /* Only a schedule that keeps the rules has scales and levels to draw: it is checked against its own erasure. */
 enum status run_picture(const struct arguments *arguments) {
     first.kind = SCHEDULE;

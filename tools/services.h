@@ -8,6 +8,7 @@ enum status run_plan(const struct arguments *arguments);
 enum status run_check(const struct arguments *arguments);
 enum status run_erase(const struct arguments *arguments);
 enum status run_least_level(const struct arguments *arguments);
+enum status run_quote(const struct arguments *arguments);
 enum status run_from_rising(const struct arguments *arguments);
 enum status run_to_rising(const struct arguments *arguments);
 enum status run_picture(const struct arguments *arguments);

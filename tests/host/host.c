@@ -32,21 +32,28 @@ enum {
     GUARD = 64,           /* bytes before and after each lent buffer */
     MOST_GROWTH = 256,    /* KiB */
     LONGEST_CIRCUIT = 4372,
+    SCHEDULE_LINES = 1792,
     MOST_INPUTS = 2048,
     MOST_JOBS = 4096,
     MOST_THREADS = 64,
     FAULT_STACK = 32768,
+    SHOWN = 72,           /* bytes of a reply in a message */
     OVERLAP_SECONDS = 20
 };
 
-enum service { PLAN, CHECK, ERASE, LEAST, FROM_RISING, TO_RISING };
+enum service { PLAN, CHECK, ERASE, LEAST, QUOTE, FROM_RISING, TO_RISING };
 
-static const char *const service_names[] = {"plan", "check", "erase", "least level", "from rising", "to rising"};
+static const char *const service_names[] = {"plan", "check", "erase", "least level", "quote", "from rising", "to rising"};
 
 struct input {
     char name[128];
     const uint8_t *bytes;
     size_t length;
+};
+
+/* What a call replies. The length of a quote is its bytes; lines and price are 0 in every other reply. */
+struct answer {
+    uint32_t number, file, place, length, lines, price;
 };
 
 /* One call, and what the first pass got from it. */
@@ -55,7 +62,7 @@ struct job {
     const struct input *file, *schedule; /* schedule: only of a check */
     size_t room;                         /* length of the lent buffer */
     bool lends_null;
-    struct gowashiru_reply reply;
+    struct answer reply;
     uint8_t *result;
 };
 
@@ -105,7 +112,7 @@ static _Noreturn void fail(const struct job *job, const char *format, ...)
     const char *service = service_names[job->service], *file = job->file->name;
     if (job->service == CHECK)
         snprintf(about, sizeof about, "%s of %s with %s: ", service, file, job->schedule->name);
-    else if (job->service == LEAST)
+    else if (job->service == LEAST || job->service == QUOTE)
         snprintf(about, sizeof about, "%s of %s: ", service, file);
     else
         snprintf(about, sizeof about, "%s of %s, buffer %s%zu: ", service, file, job->lends_null ? "NULL, " : "",
@@ -115,16 +122,16 @@ static _Noreturn void fail(const struct job *job, const char *format, ...)
     end_with(about, format, values);
 }
 
-/* The four numbers of a reply in the order of the struct. */
-static void show(struct gowashiru_reply reply, char text[48])
+/* The numbers of a reply in the order of the struct. */
+static void show(struct answer reply, char text[SHOWN])
 {
-    snprintf(text, 48, "%" PRIu32 " %" PRIu32 " %" PRIu32 " %" PRIu32, reply.number, reply.file, reply.place,
-             reply.length);
+    snprintf(text, SHOWN, "%" PRIu32 " %" PRIu32 " %" PRIu32 " %" PRIu32 " %" PRIu32 " %" PRIu32, reply.number, reply.file,
+             reply.place, reply.length, reply.lines, reply.price);
 }
 
-static _Noreturn void fail_reply(const struct job *job, struct gowashiru_reply got, struct gowashiru_reply due)
+static _Noreturn void fail_reply(const struct job *job, struct answer got, struct answer due)
 {
-    char got_text[48], due_text[48];
+    char got_text[SHOWN], due_text[SHOWN];
     show(got, got_text);
     show(due, due_text);
     fail(job, "reply %s, due %s", got_text, due_text);
@@ -219,25 +226,37 @@ static const struct input *load(const char *folder, const char *name)
 
 static bool writes(const struct job *job)
 {
-    return job->service != CHECK && job->service != LEAST;
+    return job->service != CHECK && job->service != LEAST && job->service != QUOTE;
 }
 
-static struct gowashiru_reply call(const struct job *job, uint8_t *out)
+static struct answer of_reply(struct gowashiru_reply reply)
+{
+    return (struct answer){reply.number, reply.file, reply.place, reply.length, 0, 0};
+}
+
+static struct answer of_quote(struct gowashiru_quote_reply quote)
+{
+    return (struct answer){quote.number, quote.file, quote.place, quote.bytes, quote.lines, quote.price};
+}
+
+static struct answer call(const struct job *job, uint8_t *out)
 {
     const struct input *file = job->file;
     switch (job->service) {
     case PLAN:
-        return gowashiru_plan(file->bytes, file->length, out, job->room);
+        return of_reply(gowashiru_plan(file->bytes, file->length, out, job->room));
     case CHECK:
-        return gowashiru_check(file->bytes, file->length, job->schedule->bytes, job->schedule->length);
+        return of_reply(gowashiru_check(file->bytes, file->length, job->schedule->bytes, job->schedule->length));
     case ERASE:
-        return gowashiru_erase(file->bytes, file->length, out, job->room);
+        return of_reply(gowashiru_erase(file->bytes, file->length, out, job->room));
+    case QUOTE:
+        return of_quote(gowashiru_quote(file->bytes, file->length));
     case FROM_RISING:
-        return gowashiru_from_rising(file->bytes, file->length, out, job->room);
+        return of_reply(gowashiru_from_rising(file->bytes, file->length, out, job->room));
     case TO_RISING:
-        return gowashiru_to_rising(file->bytes, file->length, out, job->room);
+        return of_reply(gowashiru_to_rising(file->bytes, file->length, out, job->room));
     default:
-        return gowashiru_least_level(file->bytes, file->length);
+        return of_reply(gowashiru_least_level(file->bytes, file->length));
     }
 }
 
@@ -247,12 +266,12 @@ static bool all_are(const uint8_t *bytes, size_t count, uint8_t fill)
 }
 
 /* Calls on a buffer full of one byte, and sees that the guards and all bytes past the result still hold that byte. */
-static struct gowashiru_reply run(const struct job *job, uint8_t *block, uint8_t fill)
+static struct answer run(const struct job *job, uint8_t *block, uint8_t fill)
 {
     uint8_t *out = block + GUARD;
     memset(block, fill, job->room + 2 * GUARD);
     running = job;
-    struct gowashiru_reply reply = call(job, job->lends_null ? NULL : out);
+    struct answer reply = call(job, job->lends_null ? NULL : out);
     running = NULL;
     size_t written = writes(job) ? reply.length : 0;
     if (written > job->room)
@@ -266,15 +285,16 @@ static struct gowashiru_reply run(const struct job *job, uint8_t *block, uint8_t
     return reply;
 }
 
-static bool same_reply(struct gowashiru_reply a, struct gowashiru_reply b)
+static bool same_reply(struct answer a, struct answer b)
 {
-    return a.number == b.number && a.file == b.file && a.place == b.place && a.length == b.length;
+    return a.number == b.number && a.file == b.file && a.place == b.place && a.length == b.length && a.lines == b.lines &&
+           a.price == b.price;
 }
 
 /* Runs a job again and compares with the first pass. */
 static void repeat(const struct job *job, uint8_t *block, uint8_t fill)
 {
-    struct gowashiru_reply reply = run(job, block, fill);
+    struct answer reply = run(job, block, fill);
     if (!same_reply(reply, job->reply))
         fail_reply(job, reply, job->reply);
     if (job->result && memcmp(block + GUARD, job->result, reply.length))
@@ -284,16 +304,21 @@ static void repeat(const struct job *job, uint8_t *block, uint8_t fill)
 /* ---- First pass ---- */
 
 /* What the header says of every reply of a service. */
-static bool is_lawful(const struct job *job, struct gowashiru_reply reply)
+static bool is_lawful(const struct job *job, struct answer reply)
 {
     static const uint32_t refusals[] = {
         [PLAN] = 0x287e, /* 1 to 6, 11, 13 */
         [CHECK] = 0x1fbe, /* 1 to 5, 7 to 12 */
         [ERASE] = 0x283e, /* 1 to 5, 11, 13 */
         [LEAST] = 0x087e, /* 1 to 6, 11 */
+        [QUOTE] = 0x087e, /* 1 to 6, 11 */
         [FROM_RISING] = 0x6fbe, /* 1 to 5, 7 to 11, 13, 14 */
         [TO_RISING] = 0x2fbe, /* 1 to 5, 7 to 11, 13 */
     };
+    /* A plan has a header, so a quote has a line; its price may be 0. */
+    bool is_quoted = job->service == QUOTE && reply.number == 0;
+    if (is_quoted ? reply.lines == 0 : reply.lines || reply.price)
+        return false;
     if (reply.number == 0) {
         bool length = job->service == LEAST ? reply.length >= 1 && reply.length <= 60
                     : job->service == CHECK ? reply.length == 0
@@ -309,7 +334,7 @@ static bool is_lawful(const struct job *job, struct gowashiru_reply reply)
 
 static struct job *add_job(struct job job)
 {
-    char text[48];
+    char text[SHOWN];
     if (job_count == MOST_JOBS)
         die("more than %d calls to repeat", MOST_JOBS);
     job.reply = run(&job, first_block, 0xa5);
@@ -328,14 +353,19 @@ static struct job *add_job(struct job job)
 
 static void expect(const struct job *job, uint32_t number, uint32_t file, uint32_t place)
 {
-    struct gowashiru_reply due = {number, file, place, number ? 0 : job->reply.length};
+    struct answer due = {number, file, place, 0, 0, 0};
+    if (number == 0) {
+        due.length = job->reply.length;
+        due.lines = job->reply.lines;
+        due.price = job->reply.price;
+    }
     if (!same_reply(job->reply, due))
         fail_reply(job, job->reply, due);
 }
 
 static void expect_level(const struct job *job, uint32_t level)
 {
-    struct gowashiru_reply due = {0, 0, 0, level};
+    struct answer due = {0, 0, 0, level, 0, 0};
     if (!same_reply(job->reply, due))
         fail_reply(job, job->reply, due);
 }
@@ -358,6 +388,11 @@ static struct job *add_erase(const struct input *schedule, size_t room)
 static struct job *add_least(const struct input *circuit)
 {
     return add_job((struct job){.service = LEAST, .file = circuit});
+}
+
+static struct job *add_quote(const struct input *circuit)
+{
+    return add_job((struct job){.service = QUOTE, .file = circuit});
 }
 
 static struct job *add_from_rising(const struct input *listing, size_t room)
@@ -383,7 +418,7 @@ static void try_rooms(const struct job *done)
     if (memcmp(enough->result, done->result, done->reply.length))
         fail(enough, "bytes differ from those in a longer buffer");
     job.result = NULL;
-    job.reply = (struct gowashiru_reply){.number = 13};
+    job.reply = (struct answer){.number = 13};
     for (job.room = 0; job.room < done->reply.length; job.room++)
         repeat(&job, first_block, (uint8_t)job.room);
     job.room = done->reply.length - 1;
@@ -394,10 +429,124 @@ static void try_rooms(const struct job *done)
     expect(add_job(job), 13, 0, 0);
 }
 
+/* ---- Quotes, held to the plan that is written ---- */
+
+/* A line of a plan: its word, its numbers, 0 where it has none, and its level. */
+struct line {
+    char word[8];
+    long numbers[3];
+    long level;
+};
+
+/* The lines of a plan whose price is known. */
+static struct line priced[SCHEDULE_LINES];
+static long priced_count;
+
+static bool is_word(const struct line *line, const char *word)
+{
+    return strcmp(line->word, word) == 0;
+}
+
+static const struct line *line_of(const struct job *plan, long value)
+{
+    if (value < 0 || value >= priced_count)
+        fail(plan, "line %ld has no line %ld before it", priced_count, value);
+    return &priced[value];
+}
+
+/* What a word costs at each level, by the header, which is held to the library by this. A product is taken to be of two ciphertexts. */
+static long price_per_level(const struct line *line)
+{
+    static const struct {
+        const char *word;
+        long price;
+    } prices[] = {
+        {"mul", GOWASHIRU_PRICE_MUL}, {"rot", GOWASHIRU_PRICE_ROT}, {"rs", GOWASHIRU_PRICE_RS},
+        {"us", GOWASHIRU_PRICE_US},   {"enc", GOWASHIRU_PRICE_ENC}, {"add", GOWASHIRU_PRICE_ADD},
+        {"neg", GOWASHIRU_PRICE_NEG}, {"ms", GOWASHIRU_PRICE_MS},   {"in", 0},
+        {"const", 0},                 {"out", 0},
+    };
+    for (size_t i = 0; i < sizeof prices / sizeof prices[0]; i++)
+        if (is_word(line, prices[i].word))
+            return prices[i].price;
+    die("a plan has the word %s", line->word);
+}
+
+/* What the line costs, from its operands; its level is filled in. */
+static long price_line(const struct job *plan, struct line *line, long top)
+{
+    long price = price_per_level(line), sum = 0;
+    if (is_word(line, "in") || is_word(line, "const")) {
+        line->level = is_word(line, "in") ? top : 0;
+        return 0;
+    }
+    const struct line *operand = line_of(plan, line->numbers[0]);
+    line->level = is_word(line, "enc") ? line->numbers[2] : operand->level;
+    if (is_word(line, "rs") || is_word(line, "ms")) {
+        for (long given_up = 0; given_up < line->numbers[1]; given_up++)
+            sum += price * line->level--;
+        return sum;
+    }
+    if (is_word(line, "mul") && (is_word(operand, "enc") || is_word(line_of(plan, line->numbers[1]), "enc")))
+        price = GOWASHIRU_PRICE_MUL_WITH_CONSTANT;
+    return price * line->level;
+}
+
+/* What counting over a written plan gives. */
+static struct answer count_over(const struct job *plan)
+{
+    static char text[ENOUGH + 1];
+    long top = 0, price = 0;
+    char *rest = text;
+    memcpy(text, plan->result, plan->reply.length);
+    text[plan->reply.length] = 0;
+    if (sscanf(strsep(&rest, "\n"), "schedule\t%*d\t%*d\t%ld", &top) != 1)
+        fail(plan, "has no header");
+    for (priced_count = 0; rest && *rest; priced_count++) {
+        if (priced_count == SCHEDULE_LINES)
+            fail(plan, "has more than %d lines", SCHEDULE_LINES);
+        struct line *line = &priced[priced_count];
+        *line = (struct line){.level = 0};
+        sscanf(strsep(&rest, "\n"), "%7s\t%ld\t%ld\t%ld", line->word, &line->numbers[0], &line->numbers[1], &line->numbers[2]);
+        price += price_line(plan, line, top);
+    }
+    if (!rest)
+        fail(plan, "does not end in a line feed");
+    return (struct answer){.length = plan->reply.length, .lines = (uint32_t)priced_count + 1, .price = (uint32_t)price};
+}
+
+/* A quote is the plan's refusal, or what counting over the plan gives; the plan takes a buffer of so many bytes, and none that is shorter. */
+static void hold_to_plan(const struct job *quote, const struct job *plan)
+{
+    struct job again = *plan;
+    if (plan->reply.number) {
+        expect(quote, plan->reply.number, plan->reply.file, plan->reply.place);
+        return;
+    }
+    struct answer due = count_over(plan);
+    if (!same_reply(quote->reply, due))
+        fail_reply(quote, quote->reply, due);
+    again.room = quote->reply.length;
+    repeat(&again, first_block, 0x5a);
+    again.room--;
+    again.result = NULL;
+    again.reply = (struct answer){.number = 13};
+    repeat(&again, first_block, 0x5a);
+}
+
+static struct job *plan_and_quote(const struct input *circuit, size_t room)
+{
+    struct job *plan = add_plan(circuit, room);
+    hold_to_plan(add_quote(circuit), plan);
+    return plan;
+}
+
+/* ---- Replies beside the examples ---- */
+
 /* The reply as the examples write it. */
 static size_t as_text(const struct job *job, uint8_t *text, size_t room)
 {
-    struct gowashiru_reply reply = job->reply;
+    struct answer reply = job->reply;
     char *line = (char *)text;
     int length;
     if (reply.number && job->service == CHECK)
@@ -409,6 +558,9 @@ static size_t as_text(const struct job *job, uint8_t *text, size_t room)
         length = snprintf(line, room, "passed\n");
     else if (job->service == LEAST)
         length = snprintf(line, room, "level\t%" PRIu32 "\n", reply.length);
+    else if (job->service == QUOTE)
+        length = snprintf(line, room, "lines\t%" PRIu32 "\nbytes\t%" PRIu32 "\nprice\t%" PRIu32 "\n", reply.lines,
+                          reply.length, reply.price);
     else {
         memcpy(text, job->result, reply.length);
         length = (int)reply.length;
@@ -490,9 +642,11 @@ static const struct input *find(const char *name)
 static void try_circuit(const char *folder, const char *name)
 {
     const struct input *circuit = load(folder, name);
-    const struct job *plan = add_plan(circuit, ENOUGH);
+    const struct job *plan = add_plan(circuit, ENOUGH), *quote = add_quote(circuit);
     compare(plan, folder, name, ".plan");
     compare(add_least(circuit), folder, name, ".least");
+    compare(quote, folder, name, ".quote");
+    hold_to_plan(quote, plan);
     try_rooms(plan);
     close_circle(plan);
 }
@@ -560,7 +714,7 @@ static void try_long_circuits(void)
         put(lines[value % 4], value - 1, value - 1);
     put("out\t254\n");
     const struct input *longest = take("256 lines.circuit");
-    const struct job *plan = add_plan(longest, ENOUGH);
+    const struct job *plan = plan_and_quote(longest, ENOUGH);
     expect(plan, 0, 0, 0);
     expect(add_least(longest), 0, 0, 0);
     try_rooms(plan);
@@ -568,15 +722,33 @@ static void try_long_circuits(void)
 
     put("%.*sin\n", (int)longest->length, (const char *)longest->bytes);
     const struct input *over = take("257 lines.circuit");
-    expect(add_plan(over, ENOUGH), 3, 1, 258);
+    expect(plan_and_quote(over, ENOUGH), 3, 1, 258);
     expect(add_least(over), 3, 1, 258);
 
     put("circuit\t60\t60\t60\nin\n");
     for (int value = 1; value < 256; value++)
         put("mul\t%d\t%d\n", value - 1, value - 1);
     const struct input *deep = take("255 squarings.circuit");
-    if (add_plan(deep, ENOUGH)->reply.number != 6 || add_least(deep)->reply.number != 6)
+    if (plan_and_quote(deep, ENOUGH)->reply.number != 6 || add_least(deep)->reply.number != 6)
         die("plan or least level of %s: not refused with 6", deep->name);
+}
+
+static void try_quote(const struct input *circuit, struct answer due)
+{
+    const struct job *plan = add_plan(circuit, ENOUGH), *quote = add_quote(circuit);
+    if (!same_reply(quote->reply, due))
+        fail_reply(quote, quote->reply, due);
+    hold_to_plan(quote, plan);
+}
+
+/* Quotes worked by hand: a header alone, and a plan whose rs and ms lines give up several levels. */
+static void try_quotes(void)
+{
+    put("circuit\t60\t20\t2\n");
+    try_quote(take("header alone.circuit"), (struct answer){.lines = 1, .length = 17, .price = 0});
+    /* enc 16, mul with it 32, two rs of 48 + 42, mul 240, rs 36 + 30, enc 8, add 4, ms 8 + 7 + 6 + 5, mul 160 */
+    put("circuit\t10\t20\t8\nin\nconst\t7\nmul\t1\t0\nmul\t2\t2\nadd\t3\t1\nmul\t4\t0\n");
+    try_quote(take("several levels.circuit"), (struct answer){.lines = 13, .length = 111, .price = 732});
 }
 
 /* A small circuit with this constant number, or its plan. */
@@ -596,7 +768,7 @@ static void try_constants(void)
     static const char *const numbers[] = {"0", "65535", "65536", "65543", "4294967294", "4294967295"};
     for (size_t i = 0; i < sizeof numbers / sizeof numbers[0]; i++) {
         const struct input *circuit = with_constant(numbers[i], false), *due = with_constant(numbers[i], true);
-        const struct job *plan = add_plan(circuit, ENOUGH);
+        const struct job *plan = plan_and_quote(circuit, ENOUGH);
         expect_bytes(plan, due);
         expect(add_least(circuit), 0, 0, 0);
         try_rooms(plan);
@@ -613,7 +785,7 @@ static void try_constants(void)
     const struct input *longest = take("256 constants.circuit");
     if (longest->length != LONGEST_CIRCUIT)
         die("%s has %zu bytes, not %d", longest->name, longest->length, LONGEST_CIRCUIT);
-    const struct job *plan = add_plan(longest, ENOUGH);
+    const struct job *plan = plan_and_quote(longest, ENOUGH);
     expect(plan, 0, 0, 0);
     try_rooms(plan);
     close_circle(plan);
@@ -627,7 +799,7 @@ static void try_large_constants(void)
     for (size_t i = 0; i < sizeof numbers / sizeof numbers[0]; i++) {
         const struct input *circuit = with_constant(numbers[i], false), *schedule = with_constant(numbers[i], true);
         uint32_t due = strlen(numbers[i]) > 11 ? 1 : 11;
-        expect(add_plan(circuit, ENOUGH), due, 1, 3);
+        expect(plan_and_quote(circuit, ENOUGH), due, 1, 3);
         expect(add_least(circuit), due, 1, 3);
         expect(add_check(circuit, schedule), due, 1, 3);
         expect(add_check(good, schedule), due, 2, 3);
@@ -734,14 +906,14 @@ static void try_headroom_of_plans(void)
     static const char *const fitting[] = {NULL, "1", "5", "20"};
     for (size_t i = 0; i < sizeof fitting / sizeof fitting[0]; i++) {
         const struct input *circuit = with_headroom("circuit", "60\t20\t2", fitting[i], circuit_lines);
-        const struct job *plan = add_plan(circuit, ENOUGH);
+        const struct job *plan = plan_and_quote(circuit, ENOUGH);
         expect_bytes(plan, with_headroom("schedule", "60\t20\t2", fitting[i], plan_lines));
         expect_level(add_least(circuit), 2);
         try_rooms(plan);
         close_circle(plan);
     }
     const struct input *over = with_headroom("circuit", "60\t20\t2", "21", circuit_lines);
-    expect(add_plan(over, ENOUGH), 6, 1, 6);
+    expect(plan_and_quote(over, ENOUGH), 6, 1, 6);
     expect_level(add_least(over), 3);
     expect_level(add_least(with_headroom("circuit", "1\t30\t1", NULL, "in\n")), 30);
     expect_level(add_least(with_headroom("circuit", "1\t30\t1", "30", "in\n")), 60);
@@ -814,7 +986,7 @@ static void try_damaged_headroom(void)
         uint32_t due = faults[i].due;
         const struct input *circuit = with_headroom("circuit", "60\t20\t2", faults[i].headroom, "in\n");
         const struct input *schedule = with_headroom("schedule", "60\t20\t2", faults[i].headroom, "in\n");
-        expect(add_plan(circuit, ENOUGH), due, 1, 1);
+        expect(plan_and_quote(circuit, ENOUGH), due, 1, 1);
         expect(add_least(circuit), due, 1, 1);
         expect(add_check(circuit, schedule), due, 1, 1);
         expect(add_check(good, schedule), due, 2, 1);
@@ -843,7 +1015,7 @@ static void try_damaged(const char *name, void (*try_one)(const struct input *))
 
 static void try_damaged_circuit(const struct input *damaged)
 {
-    add_plan(damaged, 1024);
+    plan_and_quote(damaged, 1024);
     add_least(damaged);
 }
 
@@ -865,7 +1037,7 @@ static void try_null(void)
     const struct input *none = add_input("NULL", NULL, 0);
     const struct input *circuit = find("listing.circuit"), *schedule = find("listing.by_hand.schedule");
     struct job nothing = {.service = PLAN, .file = none, .lends_null = true};
-    expect(add_plan(none, ENOUGH), 1, 1, 1);
+    expect(plan_and_quote(none, ENOUGH), 1, 1, 1);
     expect(add_plan(none, 0), 1, 1, 1);
     expect(add_job(nothing), 1, 1, 1);
     expect(add_check(none, schedule), 1, 1, 1);
@@ -896,7 +1068,7 @@ static _Noreturn void overlap_in_child(const struct job *job)
     struct input moved = {.bytes = both, .length = job->file->length};
     struct job copy = *job;
     copy.file = &moved;
-    struct gowashiru_reply reply = call(&copy, both);
+    struct answer reply = call(&copy, both);
     bool same = same_reply(reply, job->reply) && (reply.length == 0 || memcmp(both, job->result, reply.length) == 0);
     _exit(same ? 0 : 1);
 }
@@ -1029,6 +1201,7 @@ static void first_pass(const char *folder)
 {
     int circuits = try_all(folder, ".circuit", try_circuit);
     int schedules = try_all(folder, ".schedule", try_schedule);
+    try_quotes();
     try_long_circuits();
     try_long_schedules();
     try_listings();

@@ -13,11 +13,11 @@
 #include <string.h>
 #include <ucontext.h>
 
-enum { FILL = 0xA5, MOST_INPUTS = 32, SERVICES = 7 };
+enum { FILL = 0xA5, MOST_INPUTS = 32, SERVICES = 8 };
 
-enum service { NOTHING, PLAN, CHECK, ERASE, LEAST, FROM_RISING, TO_RISING };
+enum service { NOTHING, PLAN, CHECK, ERASE, LEAST, QUOTE, FROM_RISING, TO_RISING };
 
-static const char *const names[SERVICES] = {"nothing", "plan", "check", "erase", "least level", "from rising", "to rising"};
+static const char *const names[SERVICES] = {"nothing", "plan", "check", "erase", "least level", "quote", "from rising", "to rising"};
 
 struct input {
     char *bytes;
@@ -43,6 +43,8 @@ static void call(void)
         gowashiru_erase(one, first.length, out, sizeof out);
     else if (service == LEAST)
         gowashiru_least_level(one, first.length);
+    else if (service == QUOTE)
+        gowashiru_quote(one, first.length);
     else if (service == FROM_RISING)
         gowashiru_from_rising(one, first.length, out, sizeof out);
     else if (service == TO_RISING)

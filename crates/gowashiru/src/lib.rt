@@ -1,8 +1,10 @@
 // The services for a host in C, each with what the demands ask of it. include/gowashiru.h has the declarations.
+use quotes::QuoteReply;
 use services::Reply;
 ghost use Rattle.services.specs.Promises.{PlanPromise, CheckPromise, ErasePromise, LeastPromise};
 ghost use Rattle.services.specs.Listings.{FromRisingPromise};
 ghost use Rattle.risingwriter.specs.GoingOut.{ToRisingPromise};
+ghost use Rattle.quotes.specs.Quotes.{QuotePromise};
 
 // Plans a circuit.
 #[no_mangle]
@@ -50,4 +52,12 @@ pub extern "C" fn gowashiru_to_rising(schedule: &[u8], out: &mut [u8]) -> Reply
     ensures { λ r. ⌜ ToRisingPromise (now (schedule .entry)) (now (out .entry)) r (now (out .exit)) ⌝ }
 {
     risingwriter::to_rising(schedule, out)
+}
+
+// Quotes the plan of a circuit: its lines, bytes and price.
+#[no_mangle]
+pub extern "C" fn gowashiru_quote(circuit: &[u8]) -> QuoteReply
+    ensures { λ r. ⌜ QuotePromise (now (circuit .entry)) r ⌝ }
+{
+    quotes::quote(circuit)
 }

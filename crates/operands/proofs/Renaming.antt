@@ -72,7 +72,7 @@ module _ (n a b c : ℕ) where
 -- ---- a record
 module _ (r : List ℕ) where
   -- a schedule's word has a number
-  numbered-word : T (isWord Schedule (lineOf r)) → 12 ≤ getD r 0 0 → ⊥
+  pub numbered-word : T (isWord Schedule (lineOf r)) → 12 ≤ getD r 0 0 → ⊥
   unfolding lineOf lineFrom
   numbered-word t l = subst (λ (w : Word). T (isWord Schedule (lineWith w (getD r 1 0) (getD r 2 0) (getD r 3 0)))) (past-words (getD r 0 0) l) t
 

@@ -1,11 +1,8 @@
 -- Plan and least level, step by step: what each return says, from the tests on the way and what the callees ensure. Assumes nothing.
-use Prim.Native.Nat.{ℕ, _+_, _≤_}
-use native.Mathlib.Omega.{arith}
-use mathlib.Core.Path.{_≡_, sym, ap, _∙_, subst}
+use Prim.Native.Nat.{ℕ, _+_}
+use mathlib.Core.Path.{_≡_, sym, ap, _∙_}
 use mathlib.Core.List.{List}
 use borrow.Author.Needs.{needs}
-use mir.Syntax.{w32}
-use mir.Val.{Fits}
 use Rattle.fields.specs.Pieces.{Bytes}
 use Rattle.model.specs.declared.Grammar.the-variants.{Schedule}
 use Rattle.model.specs.declared.Header.{Header}
@@ -22,19 +19,12 @@ use Rattle.reader.specs.Reads.{readingOf}
 use Rattle.reader.proofs.Answers.{read-refused, read-file, circuit-formed}
 use Rattle.plantable.specs.declared.Planned.{Planned}
 use Rattle.plantable.specs.declared.Planned.the-variants.{Lines, TooFew}
-use Rattle.plantable.specs.Plans.{plannedOf, numberTold}
+use Rattle.plantable.specs.Plans.{plannedOf}
+use Rattle.plantable.proofs.Told.{lines-few, place-fits}
 use Rattle.services.specs.declared.Reply.{Reply}
 use Rattle.services.specs.Outcomes.{writes, refuses, replyOf, Replied}
 use Rattle.services.specs.Calls.{answered, planned, planOutcome, leastOutcome}
 use Rattle.services.proofs.Steps.{once-read, once-refused, replied-as, refusal-replied}
-
--- ---- the number that planning tells
-module _ (w : Planned) (most : numberTold w ≤ 1792) where
-  pub lines-few : (n : ℕ) → w ≡ Lines n → n ≤ 1792
-  lines-few n e = subst (λ (v : Planned). numberTold v ≤ 1792) e most
-
-  pub place-fits : (i k : ℕ) → w ≡ TooFew i → k ≤ 3 → Fits w32 (i + k)
-  place-fits i k e small = let below : i ≤ 1792 = subst (λ (v : Planned). numberTold v ≤ 1792) e most in record { fits = omega arith }
 
 -- ---- planning
 module _ (circuit : Bytes) (file : FileRead) (records : List (List ℕ)) (q : readingOf file records ≡ readText circuitContext circuit) where

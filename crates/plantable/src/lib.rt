@@ -2,13 +2,11 @@
 use conversions::Operand;
 use linechoices::LineChoice;
 use model::Header;
-use model::Kind;
 use tables::Record;
 ghost use mathlib.Core.Path.{_≡_};
 ghost use Prim.Native.Nat.{_≤_, _<_};
 ghost use lib.ListN.{length};
 ghost use Rattle.model.specs.declared.Grammar.the-variants.{Circuit};
-ghost use Rattle.model.specs.Files.{isCiphertext};
 ghost use Rattle.model.specs.Services.{plan};
 ghost use Rattle.text.specs.Tables.{TableFormed, fileOf};
 ghost use Rattle.tables.specs.Records.{linesHeld, freeRecords, held};
@@ -19,17 +17,6 @@ ghost use Rattle.plantable.specs.Plans.{plannedOf, numberTold};
 pub enum Planned {
     Lines(usize),
     TooFew { line: u32 },
-}
-
-fn is_ciphertext(kind: Kind) -> bool
-    ensures { λ r. ⌜ r ≡ isCiphertext kind ⌝ }
-{
-    match kind {
-        Kind::Ciphertext => true,
-        Kind::Constant => false,
-        Kind::Encoded => false,
-        Kind::Nothing => false,
-    }
 }
 
 // What is known of a value that a line after `count` circuit lines names.
@@ -50,7 +37,7 @@ fn operand_at(
     let kind = tables::kind_at(circuit, count, value as u64);
     let a = value as usize;
     Operand {
-        ciphertext: is_ciphertext(kind),
+        ciphertext: tables::is_ciphertext(kind),
         reserve: reserves[a],
         level: levels[a] as u32,
         number: numbers[a],

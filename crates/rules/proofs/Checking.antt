@@ -35,6 +35,7 @@ use Rattle.bounds.specs.Bounded.{SmallRuled}
 use Rattle.linerules.specs.Ruled.{ruledBy, Small}
 use Rattle.operands.specs.Operands.{firstOperand, secondOperand}
 use Rattle.tables.specs.Records.{linesOf, linesHeld, held}
+use Rattle.tables.proofs.Beside.{none-most, set-most}
 use Rattle.rules.specs.Scales.{noScales, ScalesLeft}
 use Rattle.rules.proofs.Counted.{same-counted, counted, counted-few, records-room, lines-long, header-formed, counted-is, counted-facts, before-long, named-below}
 use Rattle.rules.proofs.Operands.{heldAt, foundAs, stepOf, step-is, scale-found}
@@ -59,18 +60,6 @@ pub record Checking (h : Header) (records : List (List ℕ)) (count : ℕ) (scal
   pub long : length found ≡ i
   pub agree : (a : ℕ) → a < i → Agrees (getD (linesHeld records count) a Free) (heldAt scales levels a) (getD found a Founds.Bare)
   pub left : runFrom (heldMachine h) ins found (drop i (linesHeld records count)) ≡ run (heldMachine h) (linesHeld records count)
-
-none-most : (n most a : ℕ) → getD (replicate n 0) a 0 ≤ most
-none-most zero most a = omega arith
-none-most (suc n) most zero = omega arith
-none-most (suc n) most (suc a) = none-most n most a
-
-set-most : (l : List ℕ) (i x most : ℕ) → ((a : ℕ) → getD l a 0 ≤ most) → x ≤ most → (a : ℕ) → getD (set l i x) a 0 ≤ most
-set-most [] i x most s p a = s a
-set-most (y ∷ l) zero x most s p zero = p
-set-most (y ∷ l) zero x most s p (suc a) = s (suc a)
-set-most (y ∷ l) (suc i) x most s p zero = s zero
-set-most (y ∷ l) (suc i) x most s p (suc a) = set-most l i x most (λ b. s (suc b)) p a
 
 pub start :
     (h : Header) (records : List (List ℕ)) (count : ℕ) (scales : List ℕ) → TableFormed Schedule (countedTable (held h records count)) → scales ≡ noScales →

@@ -151,13 +151,39 @@ pub ruleset digit-puts = (
 )
 
 -- ---- how many there are
-pub low-counted : (n : ℕ) → n < 10 → Counted (decimal n) 20 1
-low-counted n h = record { counted = sym (ap length (decimal-low n h)); bounded = omega arith }
+one-more : (n : ℕ) → 10 ≤ n → Fits w32 n → length (decimal n) ≡ length (decimal (n / 10)) + 1
+one-more n h f = ap length (decimal-high n h f) ∙ length-append (decimal (n / 10)) ((48 + n % 10) ∷ [])
 
-pub high-counted : (n r : ℕ) → 10 ≤ n → Fits w32 n → Counted (decimal (n / 10)) 20 r → Counted (decimal n) 20 (r + 1)
-high-counted n r h f c =
-    let more : length (decimal n) ≡ length (decimal (n / 10)) + 1 =
-    ap length (decimal-high n h f) ∙ length-append (decimal (n / 10)) ((48 + n % 10) ∷ []) in
-    record { counted = omega arith; bounded = omega (arith, c .counted, at-most 20 n) }
+pub one-counted : (n : ℕ) → n < 10 → Counted (decimal n) 20 1
+one-counted n h = record { counted = sym (ap length (decimal-low n h)); bounded = omega arith }
 
-pub ruleset number-lengths = (low-counted, high-counted)
+-- so many digits, and one more
+counted-next : (n k : ℕ) → 10 ≤ n → n < 100000 → k < 5 → Counted (decimal (n / 10)) 20 k → Counted (decimal n) 20 (suc k)
+counted-next n k h g few c = record { counted = omega (arith, c .counted, one-more n h (record { fits = omega arith })); bounded = omega arith }
+
+pub two-counted : (n : ℕ) → 10 ≤ n → n < 100 → Counted (decimal n) 20 2
+two-counted n h g = counted-next n 1 h (omega arith) (omega arith) (one-counted (n / 10) (omega arith))
+
+pub three-counted : (n : ℕ) → 100 ≤ n → n < 1000 → Counted (decimal n) 20 3
+three-counted n h g = counted-next n 2 (omega arith) (omega arith) (omega arith) (two-counted (n / 10) (omega arith) (omega arith))
+
+pub four-counted : (n : ℕ) → 1000 ≤ n → n < 10000 → Counted (decimal n) 20 4
+four-counted n h g = counted-next n 3 (omega arith) (omega arith) (omega arith) (three-counted (n / 10) (omega arith) (omega arith))
+
+pub five-counted : (n : ℕ) → 10000 ≤ n → n < 100000 → Counted (decimal n) 20 5
+five-counted n h g = counted-next n 4 (omega arith) g (omega arith) (four-counted (n / 10) (omega arith) (omega arith))
+
+pub more-counted : (n r : ℕ) → 100000 ≤ n → Fits w32 n → Counted (decimal (n / 100000)) 20 r → Counted (decimal n) 20 (r + 5)
+more-counted n r h f c =
+    let within : (m : ℕ) → m ≤ n → Fits w32 m = (λ m l. record { fits = omega (arith, f .fits) }) in
+    let first = one-more n (omega arith) f in
+    let second = one-more (n / 10) (omega arith) (within (n / 10) (omega arith)) in
+    let third = one-more (n / 10 / 10) (omega arith) (within (n / 10 / 10) (omega arith)) in
+    let fourth = one-more (n / 10 / 10 / 10) (omega arith) (within (n / 10 / 10 / 10) (omega arith)) in
+    let fifth = one-more (n / 10 / 10 / 10 / 10) (omega arith) (within (n / 10 / 10 / 10 / 10) (omega arith)) in
+    let tenths : n / 10 / 10 / 10 / 10 / 10 ≡ n / 100000 = omega arith in
+    let same = ap (λ (m : ℕ). length (decimal m)) tenths in
+    let all : r + 5 ≡ length (decimal n) = omega (arith, c .counted, first, second, third, fourth, fifth, same) in
+    record { counted = all; bounded = omega (arith, all, at-most 20 n) }
+
+pub ruleset number-lengths = (one-counted, two-counted, three-counted, four-counted, five-counted, more-counted)

@@ -61,13 +61,26 @@ fn put_number(out: &mut [u8], at: usize, n: u32) -> usize
     put_digit(out, last, n)
 }
 
+// Most numbers have at most five digits, which need no division.
 fn number_len(n: u32) -> usize
     ensures { λ r. ⌜ Counted (decimal n) 20 r ⌝ }
 {
     if n < 10 {
         return 1;
     }
-    number_len(n / 10) + 1
+    if n < 100 {
+        return 2;
+    }
+    if n < 1000 {
+        return 3;
+    }
+    if n < 10000 {
+        return 4;
+    }
+    if n < 100000 {
+        return 5;
+    }
+    number_len(n / 100000) + 5
 }
 
 fn is_negative(amount: i16) -> bool

@@ -1,4 +1,5 @@
 pub mod Amounts
+pub mod Beside
 pub mod HeldLines
 pub mod Records
 pub mod Sameness

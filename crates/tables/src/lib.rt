@@ -7,7 +7,7 @@ ghost use Prim.Native.Nat.{_+_, _*_, _/_, _%_, _≤_, _<_};
 ghost use lib.ListN.{length, getD};
 ghost use Rattle.model.specs.declared.Line.the-variants.{Free};
 ghost use Rattle.model.specs.Words.{entry};
-ghost use Rattle.model.specs.Files.{kindAt, isConstant};
+ghost use Rattle.model.specs.Files.{kindAt, isCiphertext, isConstant};
 ghost use Rattle.model.specs.Answers.{sameLine};
 ghost use Rattle.tables.specs.Records.{amountFrom, wordNumber, wordFrom, recordWith, recordOf, lineWith, lineFrom, lineOf, linesOf, linesHeld, struckWord, isStruck, numbersAgree};
 
@@ -184,6 +184,17 @@ pub fn kind_at(records: &[Record], count: usize, a: u64) -> Kind
     let at = a as usize;
     let record = records[at];
     kind_of(word_from(record[0]))
+}
+
+pub fn is_ciphertext(kind: Kind) -> bool
+    ensures { λ r. ⌜ r ≡ isCiphertext kind ⌝ }
+{
+    match kind {
+        Kind::Ciphertext => true,
+        Kind::Constant => false,
+        Kind::Encoded => false,
+        Kind::Nothing => false,
+    }
 }
 
 // Whether record a holds a bare constant.

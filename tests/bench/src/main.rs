@@ -7,7 +7,7 @@ mod inputs;
 mod plot;
 
 use inputs::{Conversion, Input};
-use reference::library::{self, Lent, Library, Service};
+use reference::library::{self, Answer, Lent, Library, Service};
 use reference::services::{self, Reply};
 use std::hint::black_box;
 use std::path::Path;
@@ -15,7 +15,7 @@ use std::time::Instant;
 
 const ROOM: usize = 131_072;
 /// There are at least so many calls, so that no run passes on missing inputs.
-const LEAST_CALLS: usize = 145;
+const LEAST_CALLS: usize = 171;
 /// A measurement is the shortest of so many runs, each of about so many nanoseconds: a short run is seldom disturbed.
 const RUNS: usize = 150;
 const RUN_TIME: f64 = 150_000.0;
@@ -41,19 +41,20 @@ fn lines_of(text: &[u8]) -> usize {
     text.iter().filter(|&&byte| byte == b'\n').count().saturating_sub(1)
 }
 
-fn by_rust(call: &Call, out: &mut [u8]) -> Reply {
+fn by_rust(call: &Call, out: &mut [u8]) -> Answer {
     match call.service {
-        Service::Plan => services::plan(&call.first, out),
-        Service::Check => services::check(&call.first, &call.second),
-        Service::Erase => services::erase(&call.first, out),
-        Service::LeastLevel => services::least_level(&call.first),
-        Service::FromRising => services::from_rising(&call.first, out),
-        Service::ToRising => services::to_rising(&call.first, out),
+        Service::Plan => services::plan(&call.first, out).into(),
+        Service::Check => services::check(&call.first, &call.second).into(),
+        Service::Erase => services::erase(&call.first, out).into(),
+        Service::LeastLevel => services::least_level(&call.first).into(),
+        Service::FromRising => services::from_rising(&call.first, out).into(),
+        Service::ToRising => services::to_rising(&call.first, out).into(),
+        Service::Quote => services::quote(&call.first).into(),
     }
 }
 
 /// The time of one call, over so many calls.
-fn time_of(calls: usize, mut call: impl FnMut() -> Reply) -> f64 {
+fn time_of(calls: usize, mut call: impl FnMut() -> Answer) -> f64 {
     let start = Instant::now();
     for _ in 0..calls {
         black_box(call());
@@ -91,6 +92,7 @@ fn calls_of(input: &Input) -> Vec<(Call, usize)> {
     let mut calls = vec![
         (call(Service::Plan, "plan", circuit, &[]), lines_of(circuit)),
         (call(Service::LeastLevel, "least level", circuit, &[]), lines_of(circuit)),
+        (call(Service::Quote, "quote", circuit, &[]), lines_of(circuit)),
     ];
     if !schedule.is_empty() {
         calls.push((call(Service::Check, "check", circuit, schedule), lines_of(schedule)));

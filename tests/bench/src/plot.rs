@@ -12,13 +12,18 @@ const MOST_STEPS: f64 = 6.0;
 struct Panel {
     title: &'static str,
     family: &'static str,
-    services: [(&'static str, &'static str); 2],
+    services: &'static [(&'static str, &'static str)],
     left: f64,
 }
 
 const PANELS: [Panel; 2] = [
-    Panel { title: "Circuits", family: "circuit of", services: [("plan", "#2b5c9e"), ("least level", "#7a4fa3")], left: 60.0 },
-    Panel { title: "Schedules", family: "schedule of", services: [("check", "#b07a1e"), ("erase", "#2e7d4f")], left: 450.0 },
+    Panel {
+        title: "Circuits",
+        family: "circuit of",
+        services: &[("plan", "#2b5c9e"), ("least level", "#7a4fa3"), ("quote", "#b3403a")],
+        left: 60.0,
+    },
+    Panel { title: "Schedules", family: "schedule of", services: &[("check", "#b07a1e"), ("erase", "#2e7d4f")], left: 450.0 },
 ];
 
 /// An axis from 0 to a whole number of round steps.

@@ -2,9 +2,9 @@
 //! and inputs.
 
 use crate::coverage::Coverage;
-use crate::library::{self, Lent, Library, Service};
+use crate::library::{self, Answer, Lent, Library, Service};
 use crate::random::Random;
-use crate::services::{self, Reply};
+use crate::services::{self, QuoteReply, Reply};
 
 /// Room that holds every result.
 pub const AMPLE: usize = 32_768;
@@ -147,25 +147,43 @@ impl Both {
         self.call(Call { service: Service::ToRising, first: schedule, second: &[], room })
     }
 
+    pub fn quote(&mut self, circuit: &[u8]) -> Result<QuoteReply, String> {
+        match self.compared(Call { service: Service::Quote, first: circuit, second: &[], room: 0 })? {
+            (Answer::Quote(quote), _) => Ok(quote),
+            (Answer::Reply(_), _) => unreachable!("a quote has a reply of its own"),
+        }
+    }
+
     fn call(&mut self, call: Call) -> Result<Outcome, String> {
+        match self.compared(call)? {
+            (Answer::Reply(reply), written) => Ok(Outcome { reply, written }),
+            (Answer::Quote(_), _) => unreachable!("only a quote is answered so"),
+        }
+    }
+
+    /// A call that is compared and counted: what all sides agreed on, and the bytes written.
+    fn compared(&mut self, call: Call) -> Result<(Answer, Vec<u8>), String> {
         let inputs = [self.lend_input(call.first), self.lend_input(call.second)];
         let buffer = self.lend_buffer(call.room);
         let mut expected = buffer.clone();
-        let reply = reference_call(call, expected.bytes_mut());
+        let answer = reference_call(call, expected.bytes_mut());
         for library in [Library::Archive, Library::Yardstick] {
-            let (theirs, fault) = called(library, call, &inputs, &buffer, (reply, &expected));
+            let (theirs, fault) = called(library, call, &inputs, &buffer, (answer, &expected));
             if self.show {
-                println!("{}", described(library, call, reply, theirs));
+                println!("{}", described(library, call, answer, theirs));
             }
             if let Some(fault) = fault {
-                return Err(format!("{fault}\n{}", described(library, call, reply, theirs)));
+                return Err(format!("{fault}\n{}", described(library, call, answer, theirs)));
             }
         }
-        let length = if call.room == 0 { 0 } else { reply.length as usize };
+        let length = match answer {
+            Answer::Reply(reply) if call.room > 0 => reply.length as usize,
+            _ => 0,
+        };
         let written = expected.bytes()[..length].to_vec();
         self.calls += 1;
-        self.coverage.count_call(&call, reply, &written);
-        Ok(Outcome { reply, written })
+        self.coverage.count_call(&call, answer, &written);
+        Ok((answer, written))
     }
 
     fn lend_input(&mut self, bytes: &[u8]) -> Lent {
@@ -191,29 +209,30 @@ impl Both {
     }
 }
 
-fn reference_call(call: Call, out: &mut [u8]) -> Reply {
+fn reference_call(call: Call, out: &mut [u8]) -> Answer {
     match call.service {
-        Service::Plan => services::plan(call.first, out),
-        Service::Check => services::check(call.first, call.second),
-        Service::Erase => services::erase(call.first, out),
-        Service::LeastLevel => services::least_level(call.first),
-        Service::FromRising => services::from_rising(call.first, out),
-        Service::ToRising => services::to_rising(call.first, out),
+        Service::Plan => services::plan(call.first, out).into(),
+        Service::Check => services::check(call.first, call.second).into(),
+        Service::Erase => services::erase(call.first, out).into(),
+        Service::LeastLevel => services::least_level(call.first).into(),
+        Service::FromRising => services::from_rising(call.first, out).into(),
+        Service::ToRising => services::to_rising(call.first, out).into(),
+        Service::Quote => services::quote(call.first).into(),
     }
 }
 
-/// A call of one library, and how it differs from the reply and the buffer expected.
+/// A call of one library, and how it differs from the answer and the buffer expected.
 fn called(
     library: Library,
     call: Call,
     inputs: &[Lent; 2],
     buffer: &Lent,
-    expected: (Reply, &Lent),
-) -> (Reply, Option<String>) {
+    expected: (Answer, &Lent),
+) -> (Answer, Option<String>) {
     let [mut first, mut second] = inputs.clone();
     let mut out = buffer.clone();
-    let reply = library::call(library, call.service, &mut first, &mut second, &mut out);
-    let fault = if reply != expected.0 {
+    let answer = library::call(library, call.service, &mut first, &mut second, &mut out);
+    let fault = if answer != expected.0 {
         Some("the replies differ".to_string())
     } else if let Some(at) = first_difference(out.framed(), expected.1.framed()) {
         Some(buffer_fault(at, &out, expected.1))
@@ -222,7 +241,7 @@ fn called(
     } else {
         None
     };
-    (reply, fault)
+    (answer, fault)
 }
 
 fn first_difference(one: &[u8], other: &[u8]) -> Option<usize> {
@@ -244,7 +263,7 @@ fn buffer_fault(at: usize, out: &Lent, expected: &Lent) -> String {
     )
 }
 
-fn described(library: Library, call: Call, ours: Reply, theirs: Reply) -> String {
+fn described(library: Library, call: Call, ours: Answer, theirs: Answer) -> String {
     let mut text =
         format!("  {library:?}, service: {:?}, room {}\n  first:  {}", call.service, call.room, call.first.escape_ascii());
     if call.service == Service::Check {
@@ -253,6 +272,13 @@ fn described(library: Library, call: Call, ours: Reply, theirs: Reply) -> String
     text + &format!("\n  library:   {}\n  reference: {}", shown(theirs), shown(ours))
 }
 
-fn shown(reply: Reply) -> String {
-    format!("number {} file {} place {} length {}", reply.number, reply.file, reply.place, reply.length)
+fn shown(answer: Answer) -> String {
+    match answer {
+        Answer::Reply(Reply { number, file, place, length }) => {
+            format!("number {number} file {file} place {place} length {length}")
+        }
+        Answer::Quote(QuoteReply { number, file, place, lines, bytes, price }) => {
+            format!("number {number} file {file} place {place} lines {lines} bytes {bytes} price {price}")
+        }
+    }
 }

@@ -6,3 +6,4 @@ pub mod hand;
 mod headroom;
 pub mod limits;
 pub mod listings;
+mod prices;

@@ -4,10 +4,10 @@
 use crate::both::Call;
 use crate::cases::damage::POWERS;
 use crate::check::{self, Standing};
-use crate::library::Service;
+use crate::library::{Answer, Service};
 use crate::plan;
 use crate::rising;
-use crate::services::Reply;
+use crate::services::{QuoteReply, Reply};
 use crate::text::{file_of, File, Header, Line, Reading, ValueKind, CIRCUIT_LINES, KEPT_LINES, SCHEDULE_LINES};
 use std::ops::RangeInclusive;
 
@@ -19,6 +19,7 @@ enum Place {
     CheckSchedule,
     Erase,
     LeastLevel,
+    Quote,
     FromRising,
     ToRising,
 }
@@ -26,19 +27,20 @@ enum Place {
 impl Place {
     fn header_word(self) -> &'static [u8] {
         match self {
-            Place::Plan | Place::CheckCircuit | Place::LeastLevel => b"circuit",
+            Place::Plan | Place::CheckCircuit | Place::LeastLevel | Place::Quote => b"circuit",
             Place::CheckSchedule | Place::Erase | Place::ToRising => b"schedule",
             Place::FromRising => b"rising",
         }
     }
 }
 
-const PLACES: [(Place, &str); 7] = [
+const PLACES: [(Place, &str); 8] = [
     (Place::Plan, "plan"),
     (Place::CheckCircuit, "check, circuit"),
     (Place::CheckSchedule, "check, schedule"),
     (Place::Erase, "erase"),
     (Place::LeastLevel, "least level"),
+    (Place::Quote, "quote"),
     (Place::FromRising, "from rising"),
     (Place::ToRising, "to rising"),
 ];
@@ -49,20 +51,22 @@ const ALL: &[Place] = &[
     Place::CheckSchedule,
     Place::Erase,
     Place::LeastLevel,
+    Place::Quote,
     Place::FromRising,
     Place::ToRising,
 ];
-const CIRCUITS: &[Place] = &[Place::Plan, Place::CheckCircuit, Place::LeastLevel];
+const CIRCUITS: &[Place] = &[Place::Plan, Place::CheckCircuit, Place::LeastLevel, Place::Quote];
 const SCHEDULES: &[Place] = &[Place::CheckSchedule, Place::Erase, Place::ToRising];
 const LISTINGS: &[Place] = &[Place::FromRising];
 /// Whose best reserves are worked out.
-const PLANNED: &[Place] = &[Place::Plan, Place::LeastLevel];
+const PLANNED: &[Place] = &[Place::Plan, Place::LeastLevel, Place::Quote];
 /// What has a schedule's grammar.
 const LONG: &[Place] = &[Place::CheckSchedule, Place::Erase, Place::FromRising, Place::ToRising];
 const RULED: &[Place] = &[Place::CheckSchedule, Place::FromRising, Place::ToRising];
 /// Where a 257th kept line is refused.
 const KEEPING: &[Place] = &[Place::Erase, Place::FromRising, Place::ToRising];
 const WRITING: &[Place] = &[Place::Plan, Place::Erase, Place::FromRising, Place::ToRising];
+const QUOTED: &[Place] = &[Place::Quote];
 
 /// What is asked for the rows of a class.
 #[derive(Clone, Copy, PartialEq, Eq)]
@@ -71,6 +75,7 @@ enum Class {
     Conversion,
     Limit,
     Buffer,
+    Price,
 }
 
 /// The least numbers of a run, for each class; 0 where a class is not asked for.
@@ -79,6 +84,7 @@ pub struct Asked {
     pub conversions: u64,
     pub limits: u64,
     pub buffers: u64,
+    pub prices: u64,
     /// Whether only planning is called.
     pub only_plan: bool,
 }
@@ -110,8 +116,18 @@ const fn limit(name: &'static str, places: &'static [Place]) -> Row {
     Row { name, class: Class::Limit, sides: 2, places }
 }
 
+/// A buffer of exactly the length, and one byte less.
+const fn buffer(name: &'static str, places: &'static [Place]) -> Row {
+    Row { name, class: Class::Buffer, sides: 2, places }
+}
+
+/// A line that has a price. One with a constant has it first or second; rescales and modswitches are one or more.
+const fn price(name: &'static str, sides: usize) -> Row {
+    Row { name, class: Class::Price, sides, places: QUOTED }
+}
+
 /// Replies stand at their numbers; the other rows are named below.
-const ROWS: [Row; 85] = [
+const ROWS: [Row; 106] = [
     reply("success", ALL),
     reply("1 text not of the form", ALL),
     reply("2 header number", ALL),
@@ -195,8 +211,29 @@ const ROWS: [Row; 85] = [
     met("least level higher by H", &[Place::LeastLevel]),
     limit("no H, scale = F l | F l + 1", RULED),
     limit("no H, best reserve 0 | -1", PLANNED),
-    Row { name: "with H, buffer enough | one short", class: Class::Buffer, sides: 2, places: WRITING },
-    Row { name: "no H, buffer enough | one short", class: Class::Buffer, sides: 2, places: WRITING },
+    buffer("with H, buffer enough | one short", WRITING),
+    buffer("no H, buffer enough | one short", WRITING),
+    price("price of mul of two", 1),
+    price("price of mul, const first | second", 2),
+    price("price of rot", 1),
+    price("price of neg", 1),
+    price("price of add of two", 1),
+    price("price of add, const first | second", 2),
+    price("price of enc", 1),
+    price("price of us", 1),
+    price("price of rs by 1 | by more", 2),
+    price("price of ms by 1 | by more", 2),
+    price("price at level 1 | at level 60", 2),
+    price("price 0", 1),
+    limit("header alone, no H | with H", QUOTED),
+    limit("rs by 30 | ms by 59", QUOTED),
+    limit("price 65535 | 65536", QUOTED),
+    met("price of 4000000 or more", QUOTED),
+    met("1273 lines", QUOTED),
+    buffer("with H, room of bytes | one less", QUOTED),
+    buffer("no H, room of bytes | one less", QUOTED),
+    limit("6 | another in no room too", QUOTED),
+    met("ms, us and rs of one operand", QUOTED),
 ];
 
 const MS: usize = 15;
@@ -265,6 +302,32 @@ const MODULUS: usize = 81;
 const RESERVE: usize = 82;
 const HEADROOM_BUFFER: usize = 83;
 const BUFFER: usize = 84;
+/// The rows of a quote.
+const PRICE_OF_MUL: usize = 85;
+const PRICE_OF_MUL_BY_CONSTANT: usize = 86;
+const PRICE_OF_ROT: usize = 87;
+const PRICE_OF_NEG: usize = 88;
+const PRICE_OF_ADD: usize = 89;
+const PRICE_OF_ADD_OF_CONSTANT: usize = 90;
+const PRICE_OF_ENC: usize = 91;
+const PRICE_OF_US: usize = 92;
+const PRICE_OF_RS: usize = 93;
+const PRICE_OF_MS: usize = 94;
+const PRICE_LEVELS: usize = 95;
+const PRICE_ZERO: usize = 96;
+const HEADER_ALONE: usize = 97;
+const MOST_AT_ONCE: usize = 98;
+const PRICE_SIXTEEN_BITS: usize = 99;
+const DEAR: usize = 100;
+const MOST_PLANNED_LINES: usize = 101;
+const HEADROOM_QUOTED_BUFFER: usize = 102;
+const QUOTED_BUFFER: usize = 103;
+const NO_ROOM: usize = 104;
+const ALL_CONVERSIONS: usize = 105;
+
+/// The most lines, with the header, of the plans that are known, and a price that only the dearest of them reach.
+const KNOWN_LINES: u32 = 1273;
+const DEAR_PRICE: u32 = 4_000_000;
 
 /// The longest circuit and the longest schedule that can be read: a header with an H, and every line a `const` of ten digits.
 const CIRCUIT_BYTES: usize = 20 + 17 * CIRCUIT_LINES;
@@ -281,11 +344,13 @@ pub struct Coverage {
     pub numbers: [u64; 15],
     /// The last text that was written with room to spare: service, input and length.
     written: Option<(Service, Vec<u8>, usize)>,
+    /// The last circuit that was quoted.
+    quoted: Option<(Vec<u8>, QuoteReply)>,
 }
 
 impl Default for Coverage {
     fn default() -> Coverage {
-        Coverage { counts: [[[0; 2]; PLACES.len()]; ROWS.len()], numbers: [0; 15], written: None }
+        Coverage { counts: [[[0; 2]; PLACES.len()]; ROWS.len()], numbers: [0; 15], written: None, quoted: None }
     }
 }
 
@@ -449,13 +514,24 @@ impl Coverage {
         self.counts[row][place as usize][side] += 1;
     }
 
-    /// Counts a call with its reply and the bytes that it wrote.
-    pub fn count_call(&mut self, call: &Call, reply: Reply, written: &[u8]) {
+    /// Counts a call with its answer and the bytes that it wrote.
+    pub fn count_call(&mut self, call: &Call, answer: impl Into<Answer>, written: &[u8]) {
+        match answer.into() {
+            Answer::Reply(reply) => self.count_reply(call, reply, written),
+            Answer::Quote(quote) => {
+                self.count_reply(call, quote.of_planning(), written);
+                self.count_quote(call.first, quote);
+            }
+        }
+    }
+
+    fn count_reply(&mut self, call: &Call, reply: Reply, written: &[u8]) {
         self.numbers[reply.number as usize] += 1;
         match call.service {
             Service::Plan => self.count_file(Place::Plan, 1, call.first, reply),
             Service::Erase => self.count_file(Place::Erase, 1, call.first, reply),
             Service::LeastLevel => self.count_file(Place::LeastLevel, 1, call.first, reply),
+            Service::Quote => self.count_file(Place::Quote, 1, call.first, reply),
             Service::ToRising => self.count_file(Place::ToRising, 1, call.first, reply),
             Service::FromRising => {
                 self.count_file(Place::FromRising, 1, call.first, reply);
@@ -480,9 +556,36 @@ impl Coverage {
             Service::ToRising => self.count_written(Place::ToRising, call, reply, written),
             _ => {}
         }
-        if reply.number == 0 && call.service == Service::Plan {
-            self.count_conversions(Place::Plan, written);
+        if call.service == Service::Plan {
+            self.count_room_of_quote(call, reply);
+            if reply.number == 0 {
+                self.count_conversions(Place::Plan, written);
+            }
         }
+    }
+
+    /// A quote: the lines that its price is made of, and numbers at their ends.
+    fn count_quote(&mut self, circuit: &[u8], quote: QuoteReply) {
+        self.quoted = Some((circuit.to_vec(), quote));
+        let planned = file_of(circuit, Reading::Circuit).and_then(|circuit| plan::plan_of(&circuit));
+        let Ok(schedule) = planned else { return };
+        let mut found = [[false; 2]; ROWS.len()];
+        price_limits(&schedule, quote).into_iter().for_each(|(row, side)| found[row][side] = true);
+        self.count_found(&found, Place::Quote);
+    }
+
+    /// A plan of the circuit quoted last: a buffer of the quoted bytes, one byte less, and none for a circuit that is refused.
+    fn count_room_of_quote(&mut self, call: &Call, reply: Reply) {
+        let Some((_, quote)) = self.quoted.as_ref().filter(|(circuit, _)| circuit == call.first) else { return };
+        let bytes = quote.bytes as usize;
+        let row = if has_headroom(call.first) { HEADROOM_QUOTED_BUFFER } else { QUOTED_BUFFER };
+        let limits = met_limits(&[
+            (reply.number == 0 && call.room == bytes, (row, TAKEN)),
+            (reply.number == 13 && call.room + 1 == bytes, (row, REFUSED)),
+            (reply.number == 6 && call.room == 0, (NO_ROOM, 0)),
+            (is_reading(reply.number) && call.room == 0, (NO_ROOM, 1)),
+        ]);
+        limits.into_iter().for_each(|(row, side)| self.count(row, side, Place::Quote));
     }
 
     /// A schedule of another circuit: in what the two differ at this place.
@@ -620,7 +723,7 @@ impl Coverage {
     /// A file that was read whole: how near its scales or its best reserves come to their bounds.
     fn count_room(&mut self, place: Place, text: &[u8], reply: Reply) {
         let limits = match place {
-            Place::Plan => file_of(text, Reading::Circuit).map(|circuit| plan_limits(&circuit, reply)),
+            Place::Plan | Place::Quote => file_of(text, Reading::Circuit).map(|circuit| plan_limits(&circuit, reply)),
             Place::LeastLevel => file_of(text, Reading::Circuit).map(|circuit| least_level_limits(&circuit, reply)),
             Place::CheckSchedule if reply.number == 12 => return,
             Place::CheckSchedule | Place::ToRising => {
@@ -720,6 +823,7 @@ impl Coverage {
                 Class::Conversion => asked.conversions,
                 Class::Limit => asked.limits,
                 Class::Buffer => asked.buffers,
+                Class::Price => asked.prices,
             };
             if least == 0 || !places.iter().any(|(place, _)| row.places.contains(place)) {
                 continue;
@@ -851,6 +955,69 @@ fn least_level_limits(circuit: &File, reply: Reply) -> Vec<(usize, usize)> {
         (is_short && without.is_ok(), (HEADROOM_TOO_FEW, TAKEN)),
         (!is_short && without != Ok(least as u32), (HEADROOM_LEAST_LEVEL, TAKEN)),
     ]));
+    limits
+}
+
+/// The row and side of a line's price; none where it has none.
+fn row_of_price(lines: &[Line], line: Line) -> Option<(usize, usize)> {
+    let is_encoded = |n: u16| lines[usize::from(n)].kind() == ValueKind::Encoded;
+    let of_pair = |a: u16, b: u16, of_two, of_constant| match [is_encoded(a), is_encoded(b)] {
+        [true, _] => (of_constant, 0),
+        [_, true] => (of_constant, 1),
+        _ => (of_two, TAKEN),
+    };
+    Some(match line {
+        Line::Mul { a, b } => of_pair(a, b, PRICE_OF_MUL, PRICE_OF_MUL_BY_CONSTANT),
+        Line::Add { a, b } => of_pair(a, b, PRICE_OF_ADD, PRICE_OF_ADD_OF_CONSTANT),
+        Line::Rot { .. } => (PRICE_OF_ROT, TAKEN),
+        Line::Neg { .. } => (PRICE_OF_NEG, TAKEN),
+        Line::Enc { .. } => (PRICE_OF_ENC, TAKEN),
+        Line::Upscale { .. } => (PRICE_OF_US, TAKEN),
+        Line::Rescale { count, .. } => (PRICE_OF_RS, usize::from(count > 1)),
+        Line::Modswitch { count, .. } => (PRICE_OF_MS, usize::from(count > 1)),
+        _ => return None,
+    })
+}
+
+/// The level that a line with a price is priced at, of several rescales or modswitches the first.
+fn level_of_price(line: Line, held: &[Option<Standing>]) -> Option<i32> {
+    match line {
+        Line::Enc { level, .. } => Some(i32::from(level)),
+        _ => line.operands()[0].and_then(|a| held[usize::from(a)]).map(|standing| standing.level),
+    }
+}
+
+/// Whether the line is the last of a modswitch, an upscale and a rescale of one operand.
+fn ends_all_conversions(lines: &[Line], line: Line) -> bool {
+    let made_from = |line: Line| line.struck_from().map(|a| lines[usize::from(a)]);
+    let Line::Rescale { .. } = line else { return false };
+    let upscale = made_from(line).filter(|line| matches!(line, Line::Upscale { .. }));
+    upscale.and_then(made_from).is_some_and(|line| matches!(line, Line::Modswitch { .. }))
+}
+
+/// The rows and sides of a planned schedule and its quote.
+fn price_limits(schedule: &File, quote: QuoteReply) -> Vec<(usize, usize)> {
+    let (lines, held) = (schedule.lines(), check::standings(schedule).0);
+    let mut limits = met_limits(&[
+        (quote.price == 0, (PRICE_ZERO, TAKEN)),
+        (quote.price == 65_535, (PRICE_SIXTEEN_BITS, 0)),
+        (quote.price == 65_536, (PRICE_SIXTEEN_BITS, 1)),
+        (quote.price >= DEAR_PRICE, (DEAR, TAKEN)),
+        (quote.lines == KNOWN_LINES, (MOST_PLANNED_LINES, TAKEN)),
+        (quote.lines == 1, (HEADER_ALONE, usize::from(schedule.header.headroom.is_some()))),
+    ]);
+    for &line in lines {
+        let Some(row) = row_of_price(lines, line) else { continue };
+        let level = level_of_price(line, &held);
+        limits.push(row);
+        limits.extend(met_limits(&[
+            (level == Some(1), (PRICE_LEVELS, 0)),
+            (level == Some(60), (PRICE_LEVELS, 1)),
+            (matches!(line, Line::Rescale { count: 30, .. }), (MOST_AT_ONCE, 0)),
+            (matches!(line, Line::Modswitch { count: 59, .. }), (MOST_AT_ONCE, 1)),
+            (ends_all_conversions(lines, line), (ALL_CONVERSIONS, TAKEN)),
+        ]));
+    }
     limits
 }
 
@@ -1066,6 +1233,77 @@ mod tests {
         assert_eq!(row(&counted(&[(circuit, 99), (circuit, length), (circuit, length - 1)]), BUFFER), [1, 1]);
     }
 
+    fn quote_call(circuit: &[u8]) -> Call<'_> {
+        Call { service: Service::Quote, first: circuit, second: &[], room: 0 }
+    }
+
+    /// The counts of quoting in a row, over these circuits.
+    fn quote_row(circuits: &[&str], row: usize) -> [u64; 2] {
+        let mut coverage = Coverage::default();
+        for shown in circuits {
+            let circuit = shown.replace('/', "\n").replace(' ', "\t").into_bytes();
+            coverage.count_call(&quote_call(&circuit), services::quote(&circuit), &[]);
+        }
+        coverage.counts[row][Place::Quote as usize]
+    }
+
+    /// A quote reads a circuit as planning does.
+    #[test]
+    fn limits_of_a_quoted_circuit() {
+        let circuits = ["const 4294967295/", "const 4294967296/", "in/mul 0 0/", "in/mul 0 0/mul 1 1/", "in/neg 65536/"];
+        let circuits = circuits.map(|lines| format!("circuit 60 30 1/{lines}"));
+        let circuits = circuits.each_ref().map(String::as_str);
+        assert_eq!([quote_row(&circuits, CONSTANT), quote_row(&circuits, OPERAND_WRAP)], [[1, 1], [1, 0]]);
+        assert_eq!([quote_row(&circuits, 0), quote_row(&circuits, 6), quote_row(&circuits, 11)], [[2, 0], [1, 0], [1, 0]]);
+        assert_eq!(quote_row(&circuits, RESERVE), [1, 0]);
+        let lines = ["in/".repeat(256), "in/".repeat(257)].map(|lines| format!("circuit 60 20 1 5/{lines}"));
+        let lines = lines.each_ref().map(String::as_str);
+        assert_eq!([quote_row(&lines, CIRCUIT_LIMIT), quote_row(&lines, HEADROOM)], [[1, 1], [1, 0]]);
+    }
+
+    /// Each word in the worked listing and in the plans of `services`' tests.
+    #[test]
+    fn words_of_a_price() {
+        let listing = ["circuit 60 20 2/in/const 7/mul 0 1/mul 2 1/mul 3 3/out 4/"];
+        assert_eq!([quote_row(&listing, PRICE_OF_MUL), quote_row(&listing, PRICE_OF_MUL_BY_CONSTANT)], [[1, 0], [0, 1]]);
+        assert_eq!([quote_row(&listing, PRICE_OF_US), quote_row(&listing, PRICE_OF_ENC)], [[1, 0], [1, 0]]);
+        assert_eq!([quote_row(&listing, PRICE_OF_RS), quote_row(&listing, PRICE_LEVELS)], [[1, 0], [1, 0]]);
+        let sum =
+            ["circuit 60 60 4/in/const 7/mul 0 1/mul 2 1/add 0 3/", "circuit 60 60 3/in/const 7/mul 1 0/add 0 2/add 1 0/"];
+        assert_eq!([quote_row(&sum, PRICE_OF_MS), quote_row(&sum, PRICE_OF_ADD)], [[1, 1], [2, 0]]);
+        assert_eq!([quote_row(&sum, PRICE_OF_MUL_BY_CONSTANT), quote_row(&sum, PRICE_OF_ADD_OF_CONSTANT)], [[1, 1], [1, 0]]);
+        let rescaled = ["circuit 10 20 5/in/mul 0 0/neg 1/rot 1 1/", "circuit 60 20 60/in/neg 0/"];
+        assert_eq!([quote_row(&rescaled, PRICE_OF_RS), quote_row(&rescaled, PRICE_OF_NEG)], [[0, 1], [2, 0]]);
+        assert_eq!([quote_row(&rescaled, PRICE_OF_ROT), quote_row(&rescaled, PRICE_LEVELS)], [[1, 0], [0, 1]]);
+        let without = ["circuit 60 20 2/", "circuit 60 20 2 5/", "circuit 60 20 2/in/out 0/", "circuit 59 60 1/in/"];
+        assert_eq!([quote_row(&without, PRICE_ZERO), quote_row(&without, HEADER_ALONE)], [[3, 0], [1, 1]]);
+    }
+
+    /// Planning is set beside the quote of the same circuit before it.
+    #[test]
+    fn a_buffer_of_the_quoted_bytes() {
+        let room_row = |quoted: &[u8], planned: &[u8], row: usize| {
+            let mut coverage = Coverage::default();
+            let quote = services::quote(quoted);
+            coverage.count_call(&quote_call(quoted), quote, &[]);
+            for room in [0, (quote.bytes as usize).saturating_sub(1), quote.bytes as usize, 99] {
+                let mut out = vec![0; room];
+                let reply = services::plan(planned, &mut out);
+                let call = Call { service: Service::Plan, first: planned, second: &[], room };
+                coverage.count_call(&call, reply, &out[..reply.length as usize]);
+            }
+            coverage.counts[row][Place::Quote as usize]
+        };
+        let [fits, other] = [b"circuit\t60\t20\t1\nin\n", b"circuit\t60\t20\t2\nin\n"];
+        assert_eq!([room_row(fits, fits, QUOTED_BUFFER), room_row(fits, other, QUOTED_BUFFER)], [[1, 1], [0, 0]]);
+        let headroom = b"circuit\t60\t20\t1\t5\nin\n";
+        assert_eq!(room_row(headroom, headroom, HEADROOM_QUOTED_BUFFER), [1, 1]);
+        let [short, damaged] = [&b"circuit\t59\t60\t1\nin\n"[..], b"circuit\t59\t60\t1\nin"];
+        assert_eq!([room_row(fits, fits, NO_ROOM), room_row(short, damaged, NO_ROOM)], [[0, 0]; 2]);
+        // Three of the four rooms are 0 here.
+        assert_eq!([room_row(short, short, NO_ROOM), room_row(damaged, damaged, NO_ROOM)], [[3, 0], [0, 3]]);
+    }
+
     #[test]
     fn rows_stand_at_their_names() {
         let names = [
@@ -1095,13 +1333,22 @@ mod tests {
             (HEADROOM_LEAST_LEVEL, "least level higher by H"),
         ];
         assert!(names.iter().chain(&more).all(|&(row, name)| ROWS[row].name == name));
-        assert_eq!(BUFFER, ROWS.len() - 1);
+        let last = [
+            (BUFFER, "no H, buffer enough | one short"),
+            (PRICE_OF_MUL, "price of mul of two"),
+            (PRICE_OF_MS, "price of ms by 1 | by more"),
+            (PRICE_ZERO, "price 0"),
+            (DEAR, "price of 4000000 or more"),
+            (QUOTED_BUFFER, "no H, room of bytes | one less"),
+        ];
+        assert!(last.iter().all(|&(row, name)| ROWS[row].name == name));
+        assert_eq!(ALL_CONVERSIONS, ROWS.len() - 1);
         assert!(PLACES.iter().enumerate().all(|(at, &(place, _))| place as usize == at));
     }
 
     #[test]
     fn nothing_is_not_enough() {
-        let asked = Asked { replies: 1, conversions: 1, limits: 1, buffers: 1, only_plan: false };
+        let asked = Asked { replies: 1, conversions: 1, limits: 1, buffers: 1, prices: 1, only_plan: false };
         assert!(!Coverage::default().print(&asked));
         assert!(
             counted(&[("circuit 60 20 2/in/const 7/mul 0 1/mul 2 1/mul 3 3/", 999)]).counts[US][Place::Plan as usize][0] == 1

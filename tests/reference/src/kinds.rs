@@ -2,6 +2,7 @@
 
 mod listings;
 mod machines;
+mod quotes;
 mod search;
 
 use crate::both::{Both, Outcome, AMPLE};
@@ -145,9 +146,9 @@ fn circuit(random: &mut Random, both: &mut Both) -> Result<(), String> {
     services_of_circuit(&circuit, both)
 }
 
-/// Plan and least level of a circuit; where it has a plan, also the way through check and back by erase.
+/// Plan, quote and least level of a circuit; where it has a plan, also the way through check and back by erase.
 fn services_of_circuit(circuit: &[u8], both: &mut Both) -> Result<(), String> {
-    let planned = both.plan(circuit, AMPLE)?;
+    let planned = quotes::plan_and_quote(circuit, both)?;
     both.least_level(circuit)?;
     if planned.reply.number == 0 {
         round_trip(circuit, &planned, both)?;
@@ -284,7 +285,7 @@ fn rooms(random: &mut Random, needed: usize) -> Vec<usize> {
 fn buffer(random: &mut Random, both: &mut Both) -> Result<(), String> {
     let most_lines = random.pick(&[3, 10, 60]);
     let circuit = bytes_of(&likely_circuit(random, most_lines), Reading::Circuit);
-    let planned = both.plan(&circuit, AMPLE)?;
+    let planned = quotes::plan_and_quote(&circuit, both)?;
     // A refused circuit is refused alike with every buffer: 13 comes after all else.
     let needed = if planned.reply.number == 0 { planned.written.len() } else { 8 };
     for room in rooms(random, needed) {
@@ -317,6 +318,7 @@ fn soup(random: &mut Random, both: &mut Both) -> Result<(), String> {
     both.from_rising(b"", 0)?;
     both.to_rising(b"", 0)?;
     both.least_level(b"")?;
+    both.quote(b"")?;
     Ok(())
 }
 

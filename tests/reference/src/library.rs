@@ -1,6 +1,6 @@
 //! What is called from C: the archive under test and the yardstick, by their C declarations and one safe wrapper.
 
-use crate::services::Reply;
+use crate::services::{QuoteReply, Reply};
 
 extern "C" {
     fn gowashiru_plan(circuit: *const u8, circuit_len: usize, out: *mut u8, out_len: usize) -> Reply;
@@ -9,12 +9,14 @@ extern "C" {
     fn gowashiru_least_level(circuit: *const u8, circuit_len: usize) -> Reply;
     fn gowashiru_from_rising(listing: *const u8, listing_len: usize, out: *mut u8, out_len: usize) -> Reply;
     fn gowashiru_to_rising(schedule: *const u8, schedule_len: usize, out: *mut u8, out_len: usize) -> Reply;
+    fn gowashiru_quote(circuit: *const u8, circuit_len: usize) -> QuoteReply;
     fn yardstick_plan(circuit: *const u8, circuit_len: usize, out: *mut u8, out_len: usize) -> Reply;
     fn yardstick_check(circuit: *const u8, circuit_len: usize, schedule: *const u8, schedule_len: usize) -> Reply;
     fn yardstick_erase(schedule: *const u8, schedule_len: usize, out: *mut u8, out_len: usize) -> Reply;
     fn yardstick_least_level(circuit: *const u8, circuit_len: usize) -> Reply;
     fn yardstick_from_rising(listing: *const u8, listing_len: usize, out: *mut u8, out_len: usize) -> Reply;
     fn yardstick_to_rising(schedule: *const u8, schedule_len: usize, out: *mut u8, out_len: usize) -> Reply;
+    fn yardstick_quote(circuit: *const u8, circuit_len: usize) -> QuoteReply;
 }
 
 /// The proved archive, or the same services in plain C.
@@ -32,6 +34,26 @@ pub enum Service {
     LeastLevel,
     FromRising,
     ToRising,
+    Quote,
+}
+
+/// What a service answers: a quote has a reply of its own.
+#[derive(Clone, Copy, PartialEq, Eq, Debug)]
+pub enum Answer {
+    Reply(Reply),
+    Quote(QuoteReply),
+}
+
+impl From<Reply> for Answer {
+    fn from(reply: Reply) -> Answer {
+        Answer::Reply(reply)
+    }
+}
+
+impl From<QuoteReply> for Answer {
+    fn from(quote: QuoteReply) -> Answer {
+        Answer::Quote(quote)
+    }
 }
 
 /// Bytes to be lent, with guard bytes on both sides. Inputs are lent from memory that could be written, so that a write by
@@ -78,8 +100,8 @@ impl Lent {
     }
 }
 
-/// Calls a service. `second` is asked for by check alone, `out` by all but check and least level.
-pub fn call(library: Library, service: Service, first: &mut Lent, second: &mut Lent, out: &mut Lent) -> Reply {
+/// Calls a service. `second` is asked for by check alone, `out` by all but check, least level and quote.
+pub fn call(library: Library, service: Service, first: &mut Lent, second: &mut Lent, out: &mut Lent) -> Answer {
     let (a, a_length) = (first.pointer(), first.length);
     let (b, b_length) = (second.pointer(), second.length);
     let (result, room) = (out.pointer(), out.length);
@@ -87,18 +109,20 @@ pub fn call(library: Library, service: Service, first: &mut Lent, second: &mut L
     // overlap; with length 0 a pointer is not followed. Threads here have more stack than the header asks for.
     unsafe {
         match (library, service) {
-            (Library::Archive, Service::Plan) => gowashiru_plan(a, a_length, result, room),
-            (Library::Archive, Service::Check) => gowashiru_check(a, a_length, b, b_length),
-            (Library::Archive, Service::Erase) => gowashiru_erase(a, a_length, result, room),
-            (Library::Archive, Service::LeastLevel) => gowashiru_least_level(a, a_length),
-            (Library::Archive, Service::FromRising) => gowashiru_from_rising(a, a_length, result, room),
-            (Library::Archive, Service::ToRising) => gowashiru_to_rising(a, a_length, result, room),
-            (Library::Yardstick, Service::Plan) => yardstick_plan(a, a_length, result, room),
-            (Library::Yardstick, Service::Check) => yardstick_check(a, a_length, b, b_length),
-            (Library::Yardstick, Service::Erase) => yardstick_erase(a, a_length, result, room),
-            (Library::Yardstick, Service::LeastLevel) => yardstick_least_level(a, a_length),
-            (Library::Yardstick, Service::FromRising) => yardstick_from_rising(a, a_length, result, room),
-            (Library::Yardstick, Service::ToRising) => yardstick_to_rising(a, a_length, result, room),
+            (Library::Archive, Service::Plan) => gowashiru_plan(a, a_length, result, room).into(),
+            (Library::Archive, Service::Check) => gowashiru_check(a, a_length, b, b_length).into(),
+            (Library::Archive, Service::Erase) => gowashiru_erase(a, a_length, result, room).into(),
+            (Library::Archive, Service::LeastLevel) => gowashiru_least_level(a, a_length).into(),
+            (Library::Archive, Service::FromRising) => gowashiru_from_rising(a, a_length, result, room).into(),
+            (Library::Archive, Service::ToRising) => gowashiru_to_rising(a, a_length, result, room).into(),
+            (Library::Archive, Service::Quote) => gowashiru_quote(a, a_length).into(),
+            (Library::Yardstick, Service::Plan) => yardstick_plan(a, a_length, result, room).into(),
+            (Library::Yardstick, Service::Check) => yardstick_check(a, a_length, b, b_length).into(),
+            (Library::Yardstick, Service::Erase) => yardstick_erase(a, a_length, result, room).into(),
+            (Library::Yardstick, Service::LeastLevel) => yardstick_least_level(a, a_length).into(),
+            (Library::Yardstick, Service::FromRising) => yardstick_from_rising(a, a_length, result, room).into(),
+            (Library::Yardstick, Service::ToRising) => yardstick_to_rising(a, a_length, result, room).into(),
+            (Library::Yardstick, Service::Quote) => yardstick_quote(a, a_length).into(),
         }
     }
 }

@@ -1,7 +1,7 @@
 //! The services, from lent bytes to a reply, and the program's output.
 
-use crate::text::{read, write, File, Reading, Refusal, Text, TEXT_BYTES};
-use crate::{check, erase, plan, rising};
+use crate::text::{length, read, write, File, Reading, Refusal, Text, TEXT_BYTES};
+use crate::{check, erase, plan, price, rising};
 
 /// The reply of a call, laid out as in the C declarations. "number 0 is success, then file and place are 0."
 #[repr(C)]
@@ -26,6 +26,36 @@ impl Reply {
     /// "13 buffer too short, place 0, after all else."
     fn too_short() -> Reply {
         Reply { number: 13, file: 0, place: 0, length: 0 }
+    }
+}
+
+/// The reply of a quote, laid out as in the C declarations. On a refusal the last three are 0.
+#[repr(C)]
+#[derive(Clone, Copy, PartialEq, Eq, Debug)]
+pub struct QuoteReply {
+    pub number: u32,
+    pub file: u32,
+    pub place: u32,
+    pub lines: u32,
+    pub bytes: u32,
+    pub price: u32,
+}
+
+impl QuoteReply {
+    fn of(schedule: &File) -> QuoteReply {
+        // "header included"
+        let lines = 1 + schedule.lines().len() as u32;
+        let bytes = length(schedule, Reading::Schedule) as u32;
+        QuoteReply { number: 0, file: 0, place: 0, lines, bytes, price: price::price(schedule) }
+    }
+
+    fn refused(refusal: Refusal) -> QuoteReply {
+        QuoteReply { number: refusal.number, file: 1, place: refusal.place, lines: 0, bytes: 0, price: 0 }
+    }
+
+    /// What planning replies where there is room: "A circuit that can't be planned gets the planner's own."
+    pub fn of_planning(self) -> Reply {
+        Reply { number: self.number, file: self.file, place: self.place, length: self.bytes }
     }
 }
 
@@ -69,6 +99,16 @@ pub fn least_level(circuit: &[u8]) -> Reply {
     match read(circuit, Reading::Circuit, &mut table).and_then(|()| plan::least_level(&table)) {
         Ok(level) => Reply::success(level),
         Err(refusal) => Reply::refused(1, refusal),
+    }
+}
+
+/// "From a circuit, give the planned schedule's line count (header included), byte count and price without writing it."
+pub fn quote(circuit: &[u8]) -> QuoteReply {
+    let mut table = File::free();
+    let mut schedule = File::free();
+    match read(circuit, Reading::Circuit, &mut table).and_then(|()| plan::plan(&table, &mut schedule)) {
+        Ok(()) => QuoteReply::of(&schedule),
+        Err(refusal) => QuoteReply::refused(refusal),
     }
 }
 
@@ -214,6 +254,103 @@ mod tests {
         assert_eq!([plan(&circuit, &mut [0; 200]), plan(&circuit, &mut [])], [refused(6, 6); 2]);
         assert_eq!(program(&circuit), b"refused\t6\t6\n");
         assert_eq!(least_level(&circuit), Reply::success(3));
+    }
+
+    /// Lines, bytes and price of the quote, which are also the plan's in a buffer of just so many bytes.
+    fn quoted(shown: &str, plan_shown: &str) -> [u32; 3] {
+        let (circuit, expected) = (bytes(shown), bytes(plan_shown));
+        let QuoteReply { number, file, place, lines, bytes, price } = quote(&circuit);
+        assert_eq!([number, file, place], [0; 3], "{shown}");
+        assert_eq!([lines, bytes], [plan_shown.matches('/').count() as u32, expected.len() as u32], "{shown}");
+        let mut out = vec![0; bytes as usize];
+        assert_eq!(plan(&circuit, &mut out[1..]), Reply::too_short());
+        assert_eq!(plan(&circuit, &mut out), Reply::success(bytes));
+        assert_eq!(out, expected);
+        [lines, bytes, price]
+    }
+
+    /// 13 lines. 17 bytes of the header, then 3 and 8; 11 and 8 twice; 8 and 7 twice; 8 and 7: 111. The constants are encoded at level 2 for 2·2
+    /// each and multiplied there for 4·2 each, which is 24. Two `us` at level 2 are 4·2 each and two `rs` from level 2 are 6·2 each, which is 40.
+    /// The product of two at level 1 is 40. Together 104.
+    #[test]
+    fn quote_of_the_worked_program() {
+        let of_planning =
+            "schedule 60 20 2/in/const 7/enc 1 20 2/mul 0 2/enc 1 20 2/mul 3 4/us 5 20/rs 6 1/us 5 20/rs 8 1/mul 7 9/out 10/";
+        let shown = "circuit 60 20 2/in/const 7/mul 0 1/mul 2 1/mul 3 3/out 4/";
+        assert_eq!(quoted(shown, of_planning), [13, 111, 104]);
+        // An H is written in the header: a tab and a digit more, and the same price.
+        let with_headroom = |shown: &str| shown.replacen("20 2/", "20 2 5/", 1);
+        assert_eq!(quoted(&with_headroom(shown), &with_headroom(of_planning)), [13, 113, 104]);
+    }
+
+    #[test]
+    fn quote_of_a_header_alone() {
+        assert_eq!(quoted("circuit 60 20 1/", "schedule 60 20 1/"), [1, 17, 0]);
+        assert_eq!(quoted("circuit 1 1 1/", "schedule 1 1 1/"), [1, 15, 0]);
+        assert_eq!(quoted("circuit 60 20 1 5/", "schedule 60 20 1 5/"), [1, 19, 0]);
+        assert_eq!(quoted("circuit 60 60 60 60/", "schedule 60 60 60 60/"), [1, 21, 0]);
+        // These lines have no price.
+        assert_eq!(quoted("circuit 60 20 2/in/const 7/out 0/", "schedule 60 20 2/in/const 7/out 0/"), [4, 17 + 3 + 8 + 6, 0]);
+    }
+
+    /// F = W = 60, L = 4. The input has reserve 180, the first product 120 at level 4, the second 60 at level 3, where m(120) = 3. The sum is at
+    /// m(60) = 2: the input spends 120 on two modswitches. Price: `enc` 2·4, `mul` 4·4, `rs` 6·4, `enc` 2·3, `mul` 4·3, `ms` by 2 is 4 + 3, `rs` 6·3,
+    /// `add` 2: 8 + 16 + 24 + 6 + 12 + 7 + 18 + 2 = 93.
+    #[test]
+    fn quote_with_two_modswitches() {
+        let of_planning = "schedule 60 60 4/in/const 7/enc 1 60 4/mul 0 2/rs 3 1/enc 1 60 3/mul 4 5/ms 0 2/rs 6 1/add 7 8/";
+        // 17 + 3 + 8 + 11 + 8 + 7 + 11 + 8 + 7 + 7 + 8 bytes.
+        assert_eq!(quoted("circuit 60 60 4/in/const 7/mul 0 1/mul 2 1/add 0 3/", of_planning), [11, 95, 93]);
+    }
+
+    /// F = 10, W = 20, L = 5. The input has reserve 30 and m = 5; its square has 30 + 30 − 50 = 10 at level 5, more than 40 − 40 at level 4, and m(10) = 3.
+    /// Price: `mul` 40·5, `rs` by 2 is 6·5 + 6·4, `neg` 3: 200 + 54 + 3 = 257.
+    #[test]
+    fn quote_with_two_rescales() {
+        assert_eq!(
+            quoted("circuit 10 20 5/in/mul 0 0/neg 1/", "schedule 10 20 5/in/mul 0 0/rs 1 2/neg 2/"),
+            [5, 17 + 3 + 8 + 7 + 6, 257]
+        );
+    }
+
+    /// At L = 3 with F = 60 and W = 20 an input has m = 3, and so has its product: all lines are at level 3.
+    #[test]
+    fn quotes_of_one_line() {
+        let of_line = |line: &str, planned: &str| {
+            let of_planning = format!("schedule 60 20 3/in/const 7/{planned}/");
+            quoted(&format!("circuit 60 20 3/in/const 7/{line}/"), &of_planning)[2]
+        };
+        assert_eq!(of_line("mul 0 0", "mul 0 0"), 40 * 3);
+        // With a constant, in either place, 4·3 and its `enc` at 2·3.
+        assert_eq!(of_line("mul 0 1", "enc 1 20 3/mul 0 2"), 12 + 6);
+        assert_eq!(of_line("mul 1 0", "enc 1 20 3/mul 2 0"), 12 + 6);
+        assert_eq!(of_line("rot 0 -32767", "rot 0 -32767"), 32 * 3);
+        assert_eq!(of_line("neg 0", "neg 0"), 3);
+        assert_eq!(of_line("add 0 0", "add 0 0"), 3);
+        assert_eq!(of_line("add 0 1", "enc 1 20 3/add 0 2"), 3 + 6);
+        assert_eq!(of_line("add 1 0", "enc 1 20 3/add 2 0"), 3 + 6);
+    }
+
+    /// The planner's own refusals, and no numbers with them.
+    #[test]
+    fn refused_quotes() {
+        let refused = |number, place| QuoteReply { number, file: 1, place, lines: 0, bytes: 0, price: 0 };
+        for (shown, number, place) in [
+            ("", 1, 1),
+            ("schedule 60 20 1/", 1, 1),
+            ("circuit 60 20 1/in", 1, 2),
+            ("circuit 60 20 61/in/", 2, 1),
+            ("circuit 60 20 1/in/neg 1/", 4, 3),
+            ("circuit 60 20 1/const 7/neg 0/", 5, 3),
+            ("circuit 60 20 1/in/rot 0 -32768/", 11, 3),
+            ("circuit 60 20 1/in/mul 0 0/mul 1 1/", 6, 4),
+            ("circuit 60 20 2 21/in/const 7/mul 0 1/mul 2 1/mul 3 3/out 4/", 6, 6),
+            ("circuit 59 60 1/in/", 6, 2),
+        ] {
+            assert_eq!(quote(&bytes(shown)), refused(number, place), "{shown}");
+            assert_eq!(plan(&bytes(shown), &mut []), refused(number, place).of_planning(), "{shown}");
+        }
+        assert_eq!(quote(&bytes(&format!("circuit 60 20 1/{}", "in/".repeat(257)))), refused(3, 258));
     }
 
     #[test]

@@ -521,16 +521,11 @@ impl Text {
             self.put(digit);
         }
     }
+}
 
-    fn put_record(&mut self, word: &[u8], numbers: &[i64]) {
-        for &byte in word {
-            self.put(byte);
-        }
-        for &number in numbers {
-            self.put_number(number);
-        }
-        self.put(b'\n');
-    }
+/// What the records of a file go to: a text, or a count of its bytes.
+trait Records {
+    fn put_record(&mut self, word: &[u8], numbers: &[i64]);
 
     fn put_line(&mut self, line: Line) {
         let n = i64::from;
@@ -549,16 +544,55 @@ impl Text {
             Line::Downscale { a } => self.put_record(b"ds", &[n(a)]),
         }
     }
+
+    /// A file under the header word of `reading`. Without an H the header has three numbers.
+    fn put_file(&mut self, file: &File, reading: Reading) {
+        let Header { factor, waterline, top_level, headroom } = file.header;
+        let numbers = [factor, waterline, top_level, headroom.unwrap_or(0)].map(i64::from);
+        self.put_record(reading.header_word(), if headroom.is_some() { &numbers } else { &numbers[..3] });
+        for &line in file.lines() {
+            self.put_line(line);
+        }
+    }
 }
 
-/// Writes a file under the header word of `reading`. Without an H the header has three numbers.
-pub fn write(file: &File, reading: Reading, text: &mut Text) {
-    let Header { factor, waterline, top_level, headroom } = file.header;
-    let numbers = [factor, waterline, top_level, headroom.unwrap_or(0)].map(i64::from);
-    text.put_record(reading.header_word(), if headroom.is_some() { &numbers } else { &numbers[..3] });
-    for &line in file.lines() {
-        text.put_line(line);
+impl Records for Text {
+    fn put_record(&mut self, word: &[u8], numbers: &[i64]) {
+        for &byte in word {
+            self.put(byte);
+        }
+        for &number in numbers {
+            self.put_number(number);
+        }
+        self.put(b'\n');
     }
+}
+
+/// The bytes of a text that is not written.
+struct Length(usize);
+
+impl Records for Length {
+    fn put_record(&mut self, word: &[u8], numbers: &[i64]) {
+        self.0 += word.len() + numbers.iter().map(|&number| number_bytes(number)).sum::<usize>() + 1;
+    }
+}
+
+/// A tab, a minus where there is one, and the digits.
+fn number_bytes(number: i64) -> usize {
+    let digits = number.unsigned_abs().checked_ilog10().map_or(1, |power| power as usize + 1);
+    1 + usize::from(number < 0) + digits
+}
+
+/// Writes a file under the header word of `reading`.
+pub fn write(file: &File, reading: Reading, text: &mut Text) {
+    text.put_file(file, reading);
+}
+
+/// How many bytes the text of a file has, without writing it.
+pub fn length(file: &File, reading: Reading) -> usize {
+    let mut length = Length(0);
+    length.put_file(file, reading);
+    length.0
 }
 
 /// The text of a file as bytes of its own.
@@ -641,6 +675,7 @@ mod tests {
                 let Ok(file) = file_of(bytes.as_bytes(), reading) else { panic!("refused") };
                 assert_eq!(file.header.headroom, numbers.split(' ').nth(3).and_then(|number| number.parse().ok()));
                 assert_eq!(bytes_of(&file, reading), bytes.as_bytes());
+                assert_eq!(length(&file, reading), bytes.len());
             }
         }
     }
@@ -782,6 +817,17 @@ mod tests {
             let Ok(file) = file_of(bytes.as_bytes(), Reading::Schedule) else { panic!("refused") };
             assert!(file.lines().contains(&Line::Const { number }));
             assert_eq!(bytes_of(&file, Reading::Schedule), bytes.as_bytes());
+            assert_eq!(length(&file, Reading::Schedule), bytes.len());
+        }
+    }
+
+    /// A tab, a minus where there is one, and the digits.
+    #[test]
+    fn bytes_of_a_number() {
+        for number in [0, 1, 9, 10, 99, 100, 999, 1000, 9999, 10_000, 32_767, 99_999, 4_294_967_295] {
+            for number in [number, -number] {
+                assert_eq!(number_bytes(number), format!("\t{number}").len(), "{number}");
+            }
         }
     }
 

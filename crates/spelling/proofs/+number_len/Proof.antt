@@ -1,4 +1,4 @@
--- `spelling::number_len` meets its contract: a digit, or the digits of a tenth and one more. The number falls. Assumes nothing.
+-- `spelling::number_len` meets its contract: one to five digits, or those of the number over 100,000 and five more. The number falls. Assumes nothing.
 use Prim.Native.Nat.{ℕ, _<_}
 use borrow.Author.Needs.{needs}
 use Rattle.spelling.proofs.Digits.{number-lengths}
@@ -28,6 +28,10 @@ pub +number-len-spec : {M : Type 1} → statement M
 )
     (number-len-at t)
     number-len.Post
+    (λ c. search number-lengths)
+    (λ c. search number-lengths)
+    (λ c. search number-lengths)
+    (λ c. search number-lengths)
     (λ c. search number-lengths)
     (λ c κs. search needs)
     (λ c. search needs)

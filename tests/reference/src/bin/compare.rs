@@ -19,7 +19,7 @@ const BLOCK: u64 = 100;
 const MOST_GIVEN_UP: u64 = 20;
 const PROGRESS: Duration = Duration::from_secs(5);
 /// What a run must have tried, whatever its number of cases.
-const ASKED: Asked = Asked { replies: 200, conversions: 5000, limits: 20, buffers: 3000, only_plan: false };
+const ASKED: Asked = Asked { replies: 200, conversions: 5000, limits: 20, buffers: 3000, prices: 1000, only_plan: false };
 /// What each kind of case must have been replied: numbers, and how often at least.
 fn asked_of(kind: Kind) -> (&'static [usize], u64) {
     match kind {

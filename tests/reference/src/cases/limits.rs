@@ -1,7 +1,7 @@
 //! The limits of documents 01 and 02, each on both sides, as a fixed list of texts.
 
 use super::damage::{past_a_power, BYTES, FIELDS, POWERS};
-use super::headroom;
+use super::{headroom, prices};
 use crate::text::{CIRCUIT_LINES, KEPT_LINES, SCHEDULE_LINES};
 
 /// A circuit and a schedule; all services take them.
@@ -96,6 +96,7 @@ pub fn all() -> Vec<Pair> {
     downscales(&mut list);
     converted_counts(&mut list);
     headroom::limits(&mut list);
+    prices::limits(&mut list);
     list
 }
 

@@ -1,7 +1,7 @@
 //! Plan and least level against the exhaustive search.
 
-use super::expect;
-use crate::both::{Both, AMPLE};
+use super::{expect, quotes};
+use crate::both::Both;
 use crate::cases::files;
 use crate::random::Random;
 use crate::search::{search, Answer, MOST_LINES};
@@ -14,7 +14,7 @@ const MOST_LEVELS: i32 = 4;
 pub fn tiny(random: &mut Random, both: &mut Both) -> Result<(), String> {
     let circuit = files::tiny_circuit(random, MOST_LINES, MOST_LEVELS);
     let text = bytes_of(&circuit, Reading::Circuit);
-    let planned = both.plan(&text, AMPLE)?.reply;
+    let planned = quotes::plan_and_quote(&text, both)?.reply;
     let answered = match planned.number {
         0 => Answer::Exists,
         _ => Answer::NoneFrom((planned.place as usize).saturating_sub(2)),

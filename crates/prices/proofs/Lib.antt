@@ -1,0 +1,3 @@
+mod Laws
+mod Pricing
+pub mod Cases

@@ -1,0 +1,4 @@
+mod Counting
+pub mod Promise
+mod Laws
+pub mod Cases

@@ -1,0 +1,4 @@
+-- What a quote is, what is promised of it, and quotes worked by hand.
+pub mod Quotes
+pub mod Counts
+pub mod Worked
