@@ -1,5 +1,5 @@
 #!/usr/bin/env bash
-# The archive is what the README says of it: for x86-64, no unwind tables, no writable data, the seven calls and nothing else exported, nothing imported but
+# The archive is what the README says of it: for x86-64, no unwind tables, no line numbers, no writable data, the seven calls and nothing else exported, nothing imported but
 # memset and memcpy. It is built before.
 set -euo pipefail
 cd "$(dirname "${BASH_SOURCE[0]}")/.."
@@ -15,5 +15,6 @@ imported="$(nm --undefined-only "$archive" | awk '$1 == "U" && $2 != "memset" &&
 described="$(readelf -hSW "$archive")"
 grep -q 'Machine: .*X86-64' <<<"$described" || fail "not for x86-64"
 ! grep -q '\.eh_frame' <<<"$described" || fail "has unwind tables"
+! grep -q '\.debug' <<<"$described" || fail "has line numbers, and tests/host/README.md says that it has none"
 ! grep -qE '\.(data|bss)(\.|$| )' <<<"${described//.data.rel.ro/}" || fail "has writable data"
-echo "archive: seven calls, no unwind tables, no writable data, imports memset and memcpy at most"
+echo "archive: seven calls, no unwind tables, no line numbers, no writable data, imports memset and memcpy at most"

@@ -1,13 +1,12 @@
 -- Cutting a text into pieces and joining them are inverse, and the pieces are what a search for the next byte x finds. Assumes nothing.
-use Prim.Native.Nat.{ℕ, suc, _-_, _≤_, _<_}
+use Prim.Native.Nat.{ℕ, suc, _≤_, _<_}
 use native.Mathlib.Decide.{ℕ-discrete}
 use native.Mathlib.Omega.{arith}
 use mathlib.Core.Path.{_≡_, refl, ap, _∙_}
 use mathlib.Core.List.{List, [], _∷_, _++_}
 use borrow.Author.Tests.{eq-eqb, ne-eqb}
 use lib.Dec.{T}
-use lib.ListN.{length, take, drop, length-drop}
-use lib.Seq.{take-all}
+use lib.ListN.{length, take, drop}
 use Rattle.fields.specs.Places.{before}
 use Rattle.fields.specs.Pieces.{Bytes, inFront, split, join, sameBytes}
 use Rattle.fields.proofs.Each.{Each, none, one, each-append}
@@ -132,10 +131,6 @@ unfolding join
 join-without n none = none
 join-without n (one w none) = w
 join-without n (one w (one v vs)) = each-append w (one n (join-without n (one v vs)))
-
--- ---- all but the first byte, as the code cuts it
-pub rest-of : (s : Bytes) → take (length s - 1) (drop 1 s) ≡ drop 1 s
-rest-of s = take-all (length s - 1) (drop 1 s) (simp length-drop (omega arith))
 
 -- ---- the same bytes are equal bytes
 pub bytes-same : (a : Bytes) → T (sameBytes a a)

@@ -1,177 +1,124 @@
--- Reading digits in plain numbers: the first digit of what is left, the two after it, and the numbers that fit. Assumes nothing.
-use Prim.Native.Nat.{ℕ, suc, _+_, _*_, _-_, _^_, _≤_, _<_}
-use native.Mathlib.Nat.{one-le-pow, mul-le-mul-left, le-trans}
+-- A field's digits, one a turn: what stands where reading has come to, how it goes on, and what it has come to where no digit stands. Assumes nothing.
+use Prim.Native.Nat.{ℕ, suc, _+_, _*_, _-_, _≤_, _<_}
+use native.Mathlib.Nat.{pow-suc, pow-le-pow-right, add-zero, le-trans}
+use native.Mathlib.Numerals.{add-one}
 use native.Mathlib.Omega.{arith}
-use mathlib.Core.Path.{_≡_, refl, sym, ap, _∙_}
-use mathlib.Core.List.{[], _∷_}
+use mathlib.Core.Bool.{Bool, true, false}
+use mathlib.Core.Path.{_≡_, sym, _∙_}
 use borrow.Author.Needs.{needs}
+use borrow.Author.Tests.{le-leb, lt-leb}
 use lib.Dec.{lit<}
-use lib.ListN.{length, getD, take, drop, length-drop}
-use lib.Seq.{take-all, getD-drop, drop-drop}
+use lib.IntN.{pos}
+use lib.ListN.{length, getD, take, drop}
+use lib.Seq.{drop-cons}
 use mir.Syntax.{w64}
 use mir.Val.{Fits}
 use Rattle.fields.specs.Pieces.{Bytes}
-use Rattle.fields.specs.Numbers.{digitsOf}
-use Rattle.fields.specs.Digits.{DigitsLeft}
+use Rattle.fields.specs.Numbers.{digitsOf, numberOf}
+use Rattle.fields.specs.Digits.{beginsDigit, digitsIn, firstDigits, leadingZero}
+use Rattle.fields.specs.Places.{DigitsRead, sizeOf, numberTo, numberAt, numberUpTo}
 use Rattle.fields.specs.declared.Field.the-variants.{Number}
-use Rattle.fields.proofs.DigitLaws.{Digit, digits-next, room}
-use Rattle.fields.proofs.SpanLaws.{all-first, all-rest}
+use Rattle.fields.specs.declared.Size.{Size}
+use Rattle.fields.specs.declared.FieldAt.the-variants.{Whole, NoWhole}
+use Rattle.fields.proofs.DigitLaws.{Digit, digits-next}
+use Rattle.fields.proofs.NumberLaws.{number-none, number-leading, number-whole}
+use Rattle.fields.proofs.SpanLaws.{digits-in-more, digits-length, digit-there, none-there}
 
--- ---- the first of the digits left, and the number with it
-abbrev with-first : Bytes → ℕ → ℕ
-with-first f v = v * 10 + (getD f 0 0 - 48)
+-- ---- the number of at most so many digits
+module _ (most largest : ℕ) (s : Bytes) (at : ℕ) where
+  pub in-limit : digitsIn (drop at s) ≤ most → numberUpTo most largest s at ≡ numberTo largest (at + digitsIn (drop at s)) (numberOf (firstDigits (drop at s)))
+  unfolding numberUpTo numberAt
+  in-limit h = rw (le-leb (digitsIn (drop at s)) most h)
 
-below : (k v : ℕ) → (v + 1) * 10 ^ k ≤ 10 ^ 11 → v < 10 ^ 11
-below k v h =
-    let power = one-le-pow k 10 (lit< tt) in
-    omega (arith, mul-le-mul-left (v + 1) power)
+  pub past-limit : most < digitsIn (drop at s) → numberUpTo most largest s at ≡ NoWhole
+  unfolding numberUpTo
+  past-limit h = rw (lt-leb (digitsIn (drop at s)) most h)
 
-none-left : (f : Bytes) (v : ℕ) → length f ≡ 0 → digitsOf f v ≡ Number v
-unfolding digitsOf
-none-left [] v h = refl
-none-left (b ∷ bs) v h = absurd (omega arith)
+-- ---- so many have been read
+pub begin : (most : ℕ) (s : Bytes) (at : ℕ) → at ≤ length s → DigitsRead most s at 0 0
+begin most s at h = record { few = omega arith; within = omega arith; small = lit< tt; count = rw (add-zero at) (omega arith); number = rw (add-zero at) }
 
-module _ (f : Bytes) (v : ℕ) (left : DigitsLeft f v) where
-  first : Digit (getD f 0 0)
-  first = all-first f (left .some) (left .digits)
+module _ (most : ℕ) (s : Bytes) (at position value : ℕ) (read : DigitsRead most s at position value) (limit : most ≤ 11) where
+  abbrev left : Bytes
+  left = drop (at + position) s
 
-  pub first-low : 48 ≤ getD f 0 0
-  first-low = first .low
+  abbrev byte : ℕ
+  byte = getD s (at + position) 0
 
-  pub first-fits : Fits w64 (getD f 0 0 - 48)
-  first-fits = record { fits = omega (arith, first .high) }
+  pub value-small : value < 100000000000
+  value-small =
+      let below = pow-le-pow-right {n = 10} (lit< tt) (le-trans (read .few) limit) in
+      omega (arith, read .small)
 
-  pub product-fits : Fits w64 (v * 10)
-  product-fits = record { fits = omega (arith, below (length f) v (left .room)) }
+  -- ---- where a digit stands
+  module _ (b : Bool) (q : b ≡ beginsDigit left) (e : b ≡ true) where
+    pub inside : at + position < length s
+    inside = digit-there s (at + position) (sym q ∙ e) .inside
 
-  pub sum-fits : Fits w64 (with-first f v)
-  sum-fits = record { fits = omega (arith, below (length f) v (left .room), first .high) }
+    here : Digit byte
+    here = digit-there s (at + position) (sym q ∙ e) .digit
 
-  one-read : digitsOf f v ≡ digitsOf (drop 1 f) (with-first f v)
-  one-read = go f (left .some) first
-    where
-      go : (f : Bytes) → 1 ≤ length f → Digit (getD f 0 0) → digitsOf f v ≡ digitsOf (drop 1 f) (with-first f v)
-      go [] some d = absurd (omega arith)
-      go (b ∷ bs) some d = digits-next b bs v d
+    one-more : digitsIn left ≡ suc (digitsIn (drop (suc (at + position)) s))
+    one-more = rw (drop-cons s (at + position) 0 inside) (digits-in-more byte (drop (suc (at + position)) s) here)
 
-  room-left : (with-first f v + 1) * 10 ^ length (drop 1 f) ≤ 10 ^ 11
-  room-left =
-      let power : 10 ^ length f ≡ 10 ^ suc (length f - 1) = ap (λ (k : ℕ). 10 ^ k) (omega (arith, left .some)) in
-      rw (length-drop 1 f) (le-trans (room v (getD f 0 0 - 48) (length f - 1) (omega (arith, first .high))) (rw power at (left .room)))
+    pub digit-low : 48 ≤ byte
+    digit-low = here .low
 
-  pub last-digit : length f ≡ 1 → digitsOf f v ≡ Number (with-first f v)
-  last-digit z = one-read ∙ none-left (drop 1 f) (with-first f v) (simp length-drop (omega arith))
+    pub digit-fits : Fits w64 (byte - 48)
+    digit-fits = record { fits = omega (arith, here .high) }
 
-  more-left : (length f ≡ 1 → ⊥) → DigitsLeft (drop 1 f) (with-first f v)
-  more-left more =
-      record { some = simp length-drop (omega (arith, left .some)); digits = all-rest f (left .digits); room = room-left }
+    pub product-fits : Fits w64 (value * 10)
+    product-fits = record { fits = omega (arith, value-small) }
 
--- ---- the digit after it
-abbrev with-second : Bytes → ℕ → ℕ
-with-second f v = with-first f v * 10 + (getD f 1 0 - 48)
+    pub sum-fits : Fits w64 (value * 10 + (byte - 48))
+    sum-fits = record { fits = omega (arith, value-small, here .high) }
 
-rest-of-two : (f : Bytes) → take (length f - 2) (drop 2 f) ≡ drop 1 (drop 1 f)
-rest-of-two f = take-all (length f - 2) (drop 2 f) (simp length-drop (omega arith)) ∙ sym (drop-drop 1 1 f)
+    pub one-too-many : (largest : ℕ) → position ≡ most → NoWhole ≡ numberUpTo most largest s at
+    one-too-many largest z = sym (past-limit most largest s at (omega (arith, read .count, one-more)))
 
-module _ (f : Bytes) (v : ℕ) (left : DigitsLeft f v) (more : length f ≡ 1 → ⊥) where
-  rest-left : DigitsLeft (drop 1 f) (with-first f v)
-  rest-left = more-left f v left more
+    rest-are : digitsOf (firstDigits left) value ≡ digitsOf (firstDigits (drop (suc (at + position)) s)) (value * 10 + (byte - 48))
+    rest-are = rw (one-more, drop-cons s (at + position) 0 inside) (digits-next byte (firstDigits (drop (suc (at + position)) s)) value here)
 
-  second-is : with-first (drop 1 f) (with-first f v) ≡ with-second f v
-  second-is = ap (λ (b : ℕ). with-first f v * 10 + (b - 48)) (getD-drop 1 f 0 0)
+    pub next : (position ≡ most → ⊥) → DigitsRead most s at (position + 1) (value * 10 + (byte - 48))
+    next n =
+        let along : at + suc position ≡ suc (at + position) = omega arith in
+        rw (add-one position) (record {
+          few = omega (arith, read .few);
+          within = omega (arith, inside);
+          small = rw (pow-suc 10 position) (omega (arith, read .small, here .high));
+          count = rw along (omega (arith, read .count, one-more));
+          number = rw along (read .number ∙ rest-are);
+        })
 
-  pub second-low : 48 ≤ getD f 1 0
-  second-low = rw (getD-drop 1 f 0 0) at (first-low (drop 1 f) (with-first f v) rest-left)
+  -- ---- where none does
+  module _ (b : Bool) (q : b ≡ beginsDigit left) (e : b ≡ false) where
+    all-read : digitsIn (drop at s) ≡ position
+    all-read = omega (arith, read .count, none-there left (sym q ∙ e))
 
-  pub second-fits : Fits w64 (getD f 1 0 - 48)
-  second-fits = rw (getD-drop 1 f 0 0) at (first-fits (drop 1 f) (with-first f v) rest-left)
+    digits-are : digitsOf (take position (drop at s)) 0 ≡ Number value
+    unfolding digitsOf
+    digits-are = rw (all-read, none-there left (sym q ∙ e)) at (read .number)
 
-  pub second-product-fits : Fits w64 (with-first f v * 10)
-  second-product-fits = product-fits (drop 1 f) (with-first f v) rest-left
+    length-is : length (take position (drop at s)) ≡ position
+    length-is = rw all-read at (digits-length (drop at s))
 
-  pub second-sum-fits : Fits w64 (with-second f v)
-  second-sum-fits = rw second-is at (sum-fits (drop 1 f) (with-first f v) rest-left)
+    is-number : (largest : ℕ) → numberUpTo most largest s at ≡ numberTo largest (at + position) (numberOf (take position (drop at s)))
+    is-number largest = rw all-read at (in-limit most largest s at (rw all-read (read .few)))
 
-  pub second-last-digit : length f ≡ 2 → digitsOf f v ≡ Number (with-second f v)
-  second-last-digit z =
-      one-read f v left ∙ last-digit (drop 1 f) (with-first f v) rest-left (simp length-drop (omega arith)) ∙ ap Number second-is
+    pub no-digit : (largest : ℕ) → position ≡ 0 → NoWhole ≡ numberUpTo most largest s at
+    no-digit largest z = sym (is-number largest ∙ rw (z, number-none))
 
-  two-left : (length f ≡ 2 → ⊥) → DigitsLeft (take (length f - 2) (drop 2 f)) (with-second f v)
-  two-left many =
-      let longer : length (drop 1 f) ≡ 1 → ⊥ = λ z. many (let l = length-drop 1 f in omega arith) in
-      rw (rest-of-two f, ← second-is) (more-left (drop 1 f) (with-first f v) rest-left longer)
+    module _ (z : Bool) (l : z ≡ leadingZero (take (at + position - at) (drop at s))) (some : position ≡ 0 → ⊥) where
+      leads : z ≡ leadingZero (take position (drop at s))
+      leads = let same : at + position - at ≡ position = omega arith in rw same at l
 
-  two-read : digitsOf f v ≡ digitsOf (take (length f - 2) (drop 2 f)) (with-second f v)
-  two-read = rw (rest-of-two f, ← second-is) (one-read f v left ∙ one-read (drop 1 f) (with-first f v) rest-left)
+      pub zero-leads : (largest : ℕ) → z ≡ true → NoWhole ≡ numberUpTo most largest s at
+      zero-leads largest h = sym (is-number largest ∙ rw (number-leading (take position (drop at s)) (sym leads ∙ h)))
 
--- ---- the third, and the rest as the code cuts it: one digit on, it is the second
-abbrev with-third : Bytes → ℕ → ℕ
-with-third f v = with-second f v * 10 + (getD f 2 0 - 48)
+      pub whole : (largest : ℕ) → z ≡ false → (n : Size) → n ≡ sizeOf largest (pos value) → Whole n (at + position) ≡ numberUpTo most largest s at
+      whole largest h n is =
+          let short : length (take position (drop at s)) ≤ 11 = rw length-is (le-trans (read .few) limit) in
+          let number = number-whole (take position (drop at s)) (rw length-is (omega arith)) short (sym leads ∙ h) ∙ digits-are in
+          sym (is-number largest ∙ rw (number, ← is))
 
-rest-of-three : (f : Bytes) → take (length f - 3) (drop 3 f) ≡ take (length (drop 1 f) - 2) (drop 2 (drop 1 f))
-rest-of-three f =
-    take-all (length f - 3) (drop 3 f) (simp length-drop (omega arith))
-    ∙ sym (drop-drop 1 2 f) ∙ ap (drop 1) (sym (drop-drop 1 1 f)) ∙ sym (rest-of-two (drop 1 f))
-
-pub shorter : (f : Bytes) (t : ℕ) → 1 ≤ length f → length f ≡ t → length (take (length f - 3) (drop 3 f)) < t
-shorter f t h e = rw (rest-of-three f, rest-of-two (drop 1 f)) (simp length-drop (omega arith))
-
-module _ (f : Bytes) (v : ℕ) (left : DigitsLeft f v) (more : length f ≡ 1 → ⊥) (many : length f ≡ 2 → ⊥) where
-  left′ : DigitsLeft (drop 1 f) (with-first f v)
-  left′ = rest-left f v left more
-
-  more′ : length (drop 1 f) ≡ 1 → ⊥
-  more′ z = many (let l = length-drop 1 f in let some = left .some in omega arith)
-
-  third-is : with-second (drop 1 f) (with-first f v) ≡ with-third f v
-  third-is = rw (getD-drop 1 f 1 0, getD-drop 1 f 0 0)
-
-  second-held : with-first (drop 1 f) (with-first f v) * 10 ≡ with-second f v * 10
-  second-held = ap (λ (n : ℕ). n * 10) (second-is f v left more)
-
-  pub third-low : 48 ≤ getD f 2 0
-  third-low = rw (getD-drop 1 f 1 0) at (second-low (drop 1 f) (with-first f v) left′ more′)
-
-  pub third-fits : Fits w64 (getD f 2 0 - 48)
-  third-fits = rw (getD-drop 1 f 1 0) at (second-fits (drop 1 f) (with-first f v) left′ more′)
-
-  pub third-product-fits : Fits w64 (with-second f v * 10)
-  third-product-fits = rw second-held at (second-product-fits (drop 1 f) (with-first f v) left′ more′)
-
-  pub third-sum-fits : Fits w64 (with-third f v)
-  third-sum-fits = rw third-is at (second-sum-fits (drop 1 f) (with-first f v) left′ more′)
-
-  pub third-last-digit : length f ≡ 3 → digitsOf f v ≡ Number (with-third f v)
-  third-last-digit z =
-      one-read f v left ∙ second-last-digit (drop 1 f) (with-first f v) left′ more′ (simp length-drop (omega arith)) ∙ ap Number third-is
-
-  pub three-left : (length f ≡ 3 → ⊥) → DigitsLeft (take (length f - 3) (drop 3 f)) (with-third f v)
-  three-left longer =
-      rw (rest-of-three f, ← third-is)
-      (two-left (drop 1 f) (with-first f v) left′ more′ (λ z. longer (let l = length-drop 1 f in let some = left .some in omega arith)))
-
-  pub three-read : (r : ℕ) → digitsOf (take (length f - 3) (drop 3 f)) (with-third f v) ≡ Number r → digitsOf f v ≡ Number r
-  three-read r q =
-      one-read f v left ∙ two-read (drop 1 f) (with-first f v) left′ more′ ∙ rw (← rest-of-three f, third-is) q
-
-pub ruleset reading-laws = (
-  needs,
-  first-low,
-  first-fits,
-  product-fits,
-  sum-fits,
-  last-digit,
-  shorter,
-  second-low,
-  second-fits,
-  second-product-fits,
-  second-sum-fits,
-  second-last-digit,
-  third-low,
-  third-fits,
-  third-product-fits,
-  third-sum-fits,
-  third-last-digit,
-  three-left,
-  three-read,
-)
+pub ruleset reading-laws = (needs, value-small, inside, digit-low, digit-fits, product-fits, sum-fits)

@@ -1,17 +1,18 @@
 -- The digits that a text begins with. Assumes nothing.
-use Prim.Native.Nat.{ℕ, zero, suc, _≤_, _<_}
-use native.Mathlib.Decide.{decLt, ℕ-discrete}
+use Prim.Native.Nat.{ℕ, suc, _≤_, _<_}
+use native.Mathlib.Decide.{decLt}
 use native.Mathlib.Omega.{arith}
-use mathlib.Core.Bool.{true, false, _&&_}
-use mathlib.Core.Path.{_≡_, refl, ap}
+use mathlib.Core.Bool.{true, false}
+use mathlib.Core.Path.{_≡_, refl, sym, _∙_}
 use mathlib.Core.List.{[], _∷_}
+use borrow.Author.Needs.{needs}
 use borrow.Author.Tests.{le-leb, lt-leb, ne-eqb}
-use lib.Dec.{T}
-use lib.ListN.{length, getD, take, drop}
+use lib.Dec.{leb}
+use lib.ListN.{length, getD, drop, drop-of-length-le}
+use lib.Seq.{length-take-le, drop-cons}
 use Rattle.fields.specs.Pieces.{Bytes}
 use Rattle.fields.specs.Numbers.{isDigit}
-use Rattle.fields.specs.Digits.{digitsIn, amountIn, allDigits, allAmount}
-use Rattle.fields.proofs.Each.{Each, none, one, each-first}
+use Rattle.fields.specs.Digits.{beginsDigit, digitsIn, firstDigits, amountIn}
 use Rattle.fields.proofs.DigitLaws.{Digit}
 
 -- ---- the first byte
@@ -38,14 +39,6 @@ module _ (b : ℕ) where
       ]
 
   module _ (bs : Bytes) where
-    pub digits-in-low : b < 48 → digitsIn (b ∷ bs) ≡ 0
-    unfolding digitsIn
-    digits-in-low l = rw (below-digits l)
-
-    pub digits-in-high : 57 < b → digitsIn (b ∷ bs) ≡ 0
-    unfolding digitsIn
-    digits-in-high l = rw (above-digits l)
-
     pub digits-in-other : isDigit b ≡ false → digitsIn (b ∷ bs) ≡ 0
     unfolding digitsIn
     digits-in-other e = rw e
@@ -72,23 +65,47 @@ digits-in-within =
     digit-by-digit (λ t. digitsIn t ≤ length t) (omega arith) (λ b bs d ih. rw (digits-in-more b bs d) (omega arith))
     (λ b bs e. rw (digits-in-other b bs e) (omega arith))
 
--- as many of them as one takes are digits
-pub digits-in-all : (t : Bytes) (n : ℕ) → n ≤ digitsIn t → T (allDigits (take n t))
-unfolding digitsIn allDigits
-digits-in-all =
-    digit-by-digit (λ t. (n : ℕ) → n ≤ digitsIn t → T (allDigits (take n t))) empty more (λ b bs e n few. stop b bs n (rw (digits-in-other b bs e) at few))
-  where
-    empty : (n : ℕ) → n ≤ 0 → T (allDigits (take n []))
-    empty zero few = tt
-    empty (suc n) few = tt
+pub digits-length : (t : Bytes) → length (firstDigits t) ≡ digitsIn t
+digits-length t = length-take-le (digitsIn t) t (digits-in-within t)
 
-    more : (b : ℕ) (bs : Bytes) → Digit b → ((n : ℕ) → n ≤ digitsIn bs → T (allDigits (take n bs))) → (n : ℕ) → n ≤ digitsIn (b ∷ bs) → T (allDigits (take n (b ∷ bs)))
-    more b bs d ih zero few = tt
-    more b bs d ih (suc n) few = let rest : n ≤ digitsIn bs = omega (arith, digits-in-more b bs d) in rw (is-digit b d) (ih n rest)
+-- ---- whether one stands at a place
+pub record DigitThere (s : Bytes) (at : ℕ) : Type 0 where
+  pub inside : at < length s
+  pub digit : Digit (getD s at 0)
 
-    stop : (b : ℕ) (bs : Bytes) (n : ℕ) → n ≤ 0 → T (allDigits (take n (b ∷ bs)))
-    stop b bs zero few = tt
-    stop b bs (suc n) few = absurd (omega arith)
+module _ (s : Bytes) (at : ℕ) where
+  pub past-digits : length s ≤ at → false ≡ beginsDigit (drop at s)
+  unfolding beginsDigit
+  past-digits h = rw (drop-of-length-le s h)
+
+  module _ (h : at < length s) where
+    begins-byte : beginsDigit (drop at s) ≡ isDigit (getD s at 0)
+    unfolding beginsDigit
+    begins-byte = rw (drop-cons s at 0 h)
+
+    pub low-byte : getD s at 0 < 48 → false ≡ beginsDigit (drop at s)
+    low-byte l = sym (begins-byte ∙ below-digits (getD s at 0) l)
+
+    pub high-byte : 48 ≤ getD s at 0 → leb (getD s at 0) 57 ≡ beginsDigit (drop at s)
+    high-byte l = sym (begins-byte ∙ rw (le-leb 48 (getD s at 0) l))
+
+  pub digit-there : beginsDigit (drop at s) ≡ true → DigitThere s at
+  digit-there e =
+      elim (decLt at (length s)) [
+        | yes h ↦ record { inside = h; digit = is-there h (digit-or (getD s at 0)) }
+        | no h ↦ absurd (let z : _≡_ {A = ℕ} 0 1 = let f = past-digits (omega arith) in cc in omega arith)
+      ]
+    where
+      is-there : at < length s → DigitOr (getD s at 0) → Digit (getD s at 0)
+      is-there h (digit d) = d
+      is-there h (other o) = absurd (let z : _≡_ {A = ℕ} 0 1 = let f = begins-byte h in cc in omega arith)
+
+pub none-there : (t : Bytes) → beginsDigit t ≡ false → digitsIn t ≡ 0
+unfolding beginsDigit digitsIn
+none-there [] e = refl
+none-there (b ∷ bs) e = digits-in-other b bs e
+
+pub ruleset digit-laws = (needs, past-digits, low-byte, high-byte)
 
 -- ---- with a minus in front, or without
 pub amount-in-minus : (bs : Bytes) → amountIn (45 ∷ bs) ≡ suc (digitsIn bs)
@@ -98,51 +115,3 @@ amount-in-minus bs = refl
 pub amount-in-plain : (b : ℕ) (bs : Bytes) → (b ≡ 45 → ⊥) → amountIn (b ∷ bs) ≡ digitsIn (b ∷ bs)
 unfolding amountIn
 amount-in-plain b bs n = simp (ne-eqb b 45 n)
-
-pub amount-in-within : (t : Bytes) → amountIn t ≤ length t
-unfolding amountIn
-amount-in-within [] = omega arith
-amount-in-within (b ∷ bs) =
-    elim (ℕ-discrete b 45) [
-      | yes e ↦ rw e (omega (arith, amount-in-minus bs, digits-in-within bs))
-      | no n ↦ omega (arith, amount-in-plain b bs n, digits-in-within (b ∷ bs))
-    ]
-
-all-plain : (f : Bytes) → T (allDigits f) → T (allAmount f)
-unfolding allDigits allAmount
-all-plain [] t = tt
-all-plain (b ∷ bs) t = go (digit-or b) t
-  where
-    go : DigitOr b → T (isDigit b && allDigits bs) → T (allAmount (b ∷ bs))
-    go (digit d) t = rw (ne-eqb b 45 (λ e. omega arith)) t
-    go (other e) t = absurd (rw e at t)
-
-pub amount-in-all : (t : Bytes) (n : ℕ) → n ≤ amountIn t → T (allAmount (take n t))
-unfolding amountIn allAmount
-amount-in-all [] zero few = tt
-amount-in-all [] (suc n) few = tt
-amount-in-all (b ∷ bs) zero few = tt
-amount-in-all (b ∷ bs) (suc n) few =
-    elim (ℕ-discrete b 45) [
-      | yes e ↦ let rest : n ≤ digitsIn bs = omega (arith, ap (λ (c : ℕ). amountIn (c ∷ bs)) e, amount-in-minus bs) in rw e (digits-in-all bs n rest)
-      | no m ↦ all-plain (b ∷ take n bs) (digits-in-all (b ∷ bs) (suc n) (rw (amount-in-plain b bs m) at few))
-    ]
-
--- ---- digits alone
-pub each-digit : (f : Bytes) → T (allDigits f) → Each Digit f
-unfolding allDigits
-each-digit [] t = none
-each-digit (b ∷ bs) t = go (digit-or b) (each-digit bs) t
-  where
-    go : DigitOr b → (T (allDigits bs) → Each Digit bs) → T (isDigit b && allDigits bs) → Each Digit (b ∷ bs)
-    go (digit d) rest t = one d (rest (rw (is-digit b d) at t))
-    go (other e) rest t = absurd (rw e at t)
-
-pub all-first : (f : Bytes) → 1 ≤ length f → T (allDigits f) → Digit (getD f 0 0)
-all-first [] some t = absurd (omega arith)
-all-first (b ∷ bs) some t = each-first (each-digit (b ∷ bs) t)
-
-pub all-rest : (f : Bytes) → T (allDigits f) → T (allDigits (drop 1 f))
-unfolding allDigits
-all-rest [] t = tt
-all-rest (b ∷ bs) t = rw (is-digit b (all-first (b ∷ bs) (omega arith) t)) at t

@@ -18,7 +18,7 @@ longestField = 11
 abbrev pub isDigit : ℕ → Bool
 isDigit b = leb 48 b && leb b 57
 
--- the number of these digits, after digits of the number so far
+-- the number that these digits spell, after digits that spell n
 unfoldable pub digitsOf : Bytes → ℕ → Field
 digitsOf [] n = Number n
 digitsOf (b ∷ bs) n =

@@ -1,28 +1,27 @@
 // A text by its places: where a byte stands, whether two pieces are the same bytes, and the number that stands at a place. A number ends at the
-// first byte that is no digit; whether that byte may stand there is asked by who reads the line.
+// first byte that is no digit; whether that byte may stand there is asked by whoever reads the line.
+ghost use mathlib.Core.Bool.{true};
 ghost use mathlib.Core.Path.{_≡_};
-ghost use Prim.Native.Nat.{_+_, _≤_, _<_};
-ghost use lib.Dec.{T};
+ghost use Prim.Native.Nat.{_≤_};
 ghost use lib.IntN.{pos};
 ghost use lib.ListN.{length, drop};
 ghost use Rattle.fields.specs.Pieces.{sameBytes};
-ghost use Rattle.fields.specs.Numbers.{digitsOf, numberOf, amountOf};
-ghost use Rattle.fields.specs.Digits.{digitsIn, amountIn, leadingZero, allDigits, allAmount, DigitsLeft};
-ghost use Rattle.fields.specs.Places.{begins, sizeOf, numberAt, amountAt, fieldAt, before};
+ghost use Rattle.fields.specs.Digits.{beginsDigit, leadingZero};
+ghost use Rattle.fields.specs.Places.{begins, sizeOf, numberUpTo, amountAt, fieldAt, before};
 
-// What a number field is: a number, whatever its range, or none.
+// What a number field is, in the definitions: a number, whatever its range, or none. No code makes one.
 pub enum Field {
     Number(u64),
     NoNumber,
 }
 
-// What a rotation's field is.
+// What a rotation's field is, in the definitions. No code makes one.
 pub enum Amount {
     By(i64),
     NoAmount,
 }
 
-// A number against the largest that its caller allows: within it, on either side of zero, or above it.
+// A number against the largest that its caller allows, on either side of zero: within it, or above it.
 pub enum Size {
     Within(i64),
     Above,
@@ -33,6 +32,9 @@ pub enum FieldAt {
     Whole { number: Size, end: usize },
     NoWhole,
 }
+
+// A number field has at most so many bytes.
+const LONGEST_FIELD: usize = 11;
 
 // How many bytes of s stand before the first x.
 pub fn find(s: &[u8], x: u8) -> usize
@@ -66,56 +68,18 @@ pub fn is_at(s: &[u8], at: usize, x: u8) -> bool
     false
 }
 
-// The first place from `at` on where no digit stands.
-fn digits_end(s: &[u8], at: usize) -> usize
-    requires { ⌜ at ≤ length (now s) ⌝ }
-    ensures { λ r. ⌜ r ≡ at + digitsIn (drop at (now (s .entry))) ⌝ }
-    ensures within { λ r. ⌜ r ≤ length (now (s .entry)) ⌝ }
+// Whether a digit stands at a place.
+fn is_digit_at(s: &[u8], at: usize) -> bool
+    ensures { λ r. ⌜ r ≡ beginsDigit (drop at (now (s .entry))) ⌝ }
 {
-    let mut i = at;
-    while i < s.len() {
-        let b = s[i];
-        if b < b'0' {
-            return i;
-        }
-        if b'9' < b {
-            return i;
-        }
-        i += 1;
+    if s.len() <= at {
+        return false;
     }
-    i
-}
-
-// The same, past a minus where one stands.
-fn amount_end(s: &[u8], at: usize) -> usize
-    requires { ⌜ at ≤ length (now s) ⌝ }
-    ensures { λ r. ⌜ r ≡ at + amountIn (drop at (now (s .entry))) ⌝ }
-    ensures within { λ r. ⌜ r ≤ length (now (s .entry)) ⌝ }
-{
-    if is_at(s, at, b'-') {
-        return digits_end(s, at + 1);
+    let b = s[at];
+    if b < b'0' {
+        return false;
     }
-    digits_end(s, at)
-}
-
-// The number of the digits f, after digits whose number is value; the digits left fall with each call.
-fn digits(f: &[u8], value: u64) -> u64
-    requires { ⌜ DigitsLeft (now f) value ⌝ }
-    ensures { λ r. ⌜ digitsOf (now (f .entry)) value ≡ Field.Number r ⌝ }
-{
-    let one = value * 10 + ((f[0] - b'0') as u64);
-    if f.len() == 1 {
-        return one;
-    }
-    let two = one * 10 + ((f[1] - b'0') as u64);
-    if f.len() == 2 {
-        return two;
-    }
-    let three = two * 10 + ((f[2] - b'0') as u64);
-    if f.len() == 3 {
-        return three;
-    }
-    digits(&f[3..], three)
+    b <= b'9'
 }
 
 // Whether a zero stands in front of another byte.
@@ -128,53 +92,8 @@ fn has_leading_zero(f: &[u8]) -> bool
     f[0] == b'0'
 }
 
-// The number that digits are: 1 to 11 of them, and no zero in front of another.
-fn read_number(f: &[u8]) -> Field
-    requires { ⌜ T (allDigits (now f)) ⌝ }
-    ensures { λ r. ⌜ r ≡ numberOf (now (f .entry)) ⌝ }
-{
-    let n = f.len();
-    if n == 0 {
-        return Field::NoNumber;
-    }
-    if 11 < n {
-        return Field::NoNumber;
-    }
-    if has_leading_zero(f) {
-        return Field::NoNumber;
-    }
-    Field::Number(digits(f, 0))
-}
-
-// The rotation amount that digits are, with a minus in front or without: at most 11 bytes, a minus only before a number that is not zero.
-fn read_amount(f: &[u8]) -> Amount
-    requires { ⌜ T (allAmount (now f)) ⌝ }
-    ensures { λ r. ⌜ r ≡ amountOf (now (f .entry)) ⌝ }
-{
-    if f.len() == 0 {
-        return Amount::NoAmount;
-    }
-    if 11 < f.len() {
-        return Amount::NoAmount;
-    }
-    if f[0] == b'-' {
-        let Field::Number(n) = read_number(&f[1..]) else {
-            return Amount::NoAmount;
-        };
-        if n == 0 {
-            return Amount::NoAmount;
-        }
-        return Amount::By(0 - (n as i64));
-    }
-    let Field::Number(n) = read_number(f) else {
-        return Amount::NoAmount;
-    };
-    Amount::By(n as i64)
-}
-
-// A number against its caller's largest, and an amount, which is held to it on either side of zero.
+// A number against its caller's largest.
 fn number_size(largest: u32, number: u64) -> Size
-    requires { ⌜ number < 100000000000 ⌝ }
     ensures { λ r. ⌜ r ≡ sizeOf largest (pos number) ⌝ }
 {
     if (largest as u64) < number {
@@ -183,30 +102,55 @@ fn number_size(largest: u32, number: u64) -> Size
     Size::Within(number as i64)
 }
 
-fn amount_size(largest: u32, amount: i64) -> Size
-    ensures { λ r. ⌜ r ≡ sizeOf largest amount ⌝ }
+// The number that stands at a place, of at most `most` digits, with no zero in front of another digit. One digit is read a turn: `position` is how
+// many of the field's digits have been read, and `value` the number that they spell.
+fn number_at(s: &[u8], at: usize, most: usize, largest: u32) -> FieldAt
+    requires { ⌜ at ≤ length (now s) ⌝ }
+    requires { ⌜ most ≤ 11 ⌝ }
+    ensures { λ r. ⌜ r ≡ numberUpTo most largest (now (s .entry)) at ⌝ }
 {
-    let most = largest as i64;
-    if most < amount {
-        return Size::Above;
+    let mut position: usize = 0;
+    let mut value: u64 = 0;
+    while is_digit_at(s, at + position) {
+        if position == most {
+            return FieldAt::NoWhole;
+        }
+        value = value * 10 + ((s[at + position] - b'0') as u64);
+        position += 1;
     }
-    if amount < 0 - most {
-        return Size::Above;
+    if position == 0 {
+        return FieldAt::NoWhole;
     }
-    Size::Within(amount)
+    let end = at + position;
+    if has_leading_zero(&s[at..end]) {
+        return FieldAt::NoWhole;
+    }
+    FieldAt::Whole {
+        number: number_size(largest, value),
+        end,
+    }
 }
 
-// The number that stands at a place.
-fn number_at(s: &[u8], at: usize, largest: u32) -> FieldAt
+// The rotation amount that begins with a minus at a place: minus the number after it, which may not be zero. The minus is one of the field's bytes.
+fn negative_at(s: &[u8], at: usize, largest: u32) -> FieldAt
     requires { ⌜ at ≤ length (now s) ⌝ }
-    ensures { λ r. ⌜ r ≡ numberAt largest (now (s .entry)) at ⌝ }
+    requires { ⌜ begins 45 (drop at (now s)) ≡ true ⌝ }
+    ensures { λ r. ⌜ r ≡ amountAt largest (now (s .entry)) at ⌝ }
 {
-    let end = digits_end(s, at);
-    let Field::Number(n) = read_number(&s[at..end]) else {
+    let FieldAt::Whole { number, end } = number_at(s, at + 1, LONGEST_FIELD - 1, largest) else {
         return FieldAt::NoWhole;
     };
+    let Size::Within(n) = number else {
+        return FieldAt::Whole {
+            number: Size::Above,
+            end,
+        };
+    };
+    if n == 0 {
+        return FieldAt::NoWhole;
+    }
     FieldAt::Whole {
-        number: number_size(largest, n),
+        number: Size::Within(0 - n),
         end,
     }
 }
@@ -216,14 +160,10 @@ fn amount_at(s: &[u8], at: usize, largest: u32) -> FieldAt
     requires { ⌜ at ≤ length (now s) ⌝ }
     ensures { λ r. ⌜ r ≡ amountAt largest (now (s .entry)) at ⌝ }
 {
-    let end = amount_end(s, at);
-    let Amount::By(amount) = read_amount(&s[at..end]) else {
-        return FieldAt::NoWhole;
-    };
-    FieldAt::Whole {
-        number: amount_size(largest, amount),
-        end,
+    if is_at(s, at, b'-') {
+        return negative_at(s, at, largest);
     }
+    number_at(s, at, LONGEST_FIELD, largest)
 }
 
 // The number of a field with a sign, or without, that stands at a place, against the largest that the caller allows.
@@ -234,5 +174,5 @@ pub fn field_at(s: &[u8], at: usize, signed: bool, largest: u32) -> FieldAt
     if signed {
         return amount_at(s, at, largest);
     }
-    number_at(s, at, largest)
+    number_at(s, at, LONGEST_FIELD, largest)
 }

@@ -8,12 +8,7 @@ amount-at-spec =
     tie.close
     (tie.spec
     (λ c κs. search place-laws)
-    (λ c. search place-laws)
-    (λ c. search place-laws)
-    (λ c. search place-laws)
     (λ c κs. search place-laws)
-    (λ c. search place-laws)
-    (λ c. search place-laws)
     (λ c. search place-laws)
     (λ c κs. search place-laws)
     (λ c. search place-laws))

@@ -83,6 +83,9 @@ pub const POWERS: [i64; 2] = [1 << 16, 1 << 32];
 /// Bytes that mean something here, or nearly do.
 pub const BYTES: [u8; 20] = *b"\n\t\r -+0179aincmulo\0\xff";
 
+/// The bytes next to the digits.
+const BESIDE_DIGITS: [u8; 2] = *b"/:";
+
 /// One to three changes.
 pub fn damage(random: &mut Random, text: &[u8]) -> Vec<u8> {
     let mut text = text.to_vec();
@@ -104,11 +107,12 @@ fn damage_byte(random: &mut Random, mut text: Vec<u8>) -> Vec<u8> {
         return vec![random.pick(&BYTES)];
     }
     let at = random.below(text.len());
-    match random.below(5) {
+    match random.below(6) {
         0 => text[at] ^= 1 << random.below(8),
         1 => text[at] = random.pick(&BYTES),
         2 => drop(text.remove(at)),
         3 => text.insert(at, text[at]),
+        4 => text[at] = random.pick(&BESIDE_DIGITS),
         _ => text.insert(at, random.pick(&BYTES)),
     }
     text
