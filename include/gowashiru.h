@@ -24,7 +24,7 @@ extern "C" {
 #endif
 
 /* The version of this header and of the command; the pkg-config file has it too. */
-#define GOWASHIRU_VERSION "0.5.1"
+#define GOWASHIRU_VERSION "0.5.2"
 
 /* A buffer of so many bytes is enough for every plan, which is proved, for every erasure, which is a circuit and has at most 4,372,
  * and for every conversion: a schedule has at most 30,485 and a listing at most 30,483. How many bytes a circuit's own plan has,
@@ -36,7 +36,7 @@ extern "C" {
 #define GOWASHIRU_MOST_CONSTANT 4294967295u
 
 /* The stack to give a thread. At most 39,736 bytes were measured on x86-64 (from rising; check 39,672, quote 34,744,
- * erase 32,752, plan 31,080, to rising 21,800, least level 15,776) by tests/host/stack.c, on full files with the longest numbers in them. */
+ * erase 32,752, plan 31,080, to rising 21,800, least level 15,784) by tests/host/stack.c, on full files with the longest numbers in them. */
 #define GOWASHIRU_STACK_BYTES 131072
 
 /* What the number of a reply says. The numbers do not change. */

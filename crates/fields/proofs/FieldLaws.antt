@@ -1,31 +1,32 @@
--- The amount that stands at a place, by the number that does: one law for each return of the code, its premises the tests on the way.
--- Assumes nothing.
-use Prim.Native.Nat.{ℕ, zero, suc, _+_, _-_, _^_, _≤_, _<_}
+-- The number or the amount that stands at a place, by the number after so many bytes of its field and what a minus makes of it: one law for each return of
+-- the code, its premises the tests on the way. Assumes nothing.
+use Prim.Native.Nat.{ℕ, zero, suc, _+_, _≤_, _<_}
 use native.Mathlib.Decide.{decLe}
+use native.Mathlib.Nat.{add-zero}
 use native.Mathlib.Omega.{arith}
-use mathlib.Core.Bool.{Bool, true, false}
+use mathlib.Core.Bool.{Bool, true, false, not}
 use mathlib.Core.Path.{_≡_, refl, sym, ap, _∙_}
 use mathlib.Core.List.{[], _∷_}
 use borrow.Author.Needs.{needs}
-use borrow.Author.Tests.{eqb-true, eqb-false, le-leb, lt-leb}
-use lib.IntN.{ℤ, pos, negℤ, _-ℤ_, +ℤ-idl}
+use borrow.Author.Tests.{eqb-true, eqb-false, le-leb, lt-leb, ne-eqb, not-true, not-false}
+use lib.Dec.{T}
+use lib.IntN.{ℤ, pos, negsuc, negℤ, _-ℤ_, +ℤ-idl}
 use lib.ListN.{length, take, drop, length-drop}
 use lib.Seq.{drop-drop}
 use mir.Syntax.{w32, w64}
-use mir.Val.{Fits, SFits, toZ, ofZ}
+use mir.Val.{Fits, SFits, boolByte, toZ, ofZ}
 use mir.ValLaws.{toZ-pos, toZ-ofZ}
 use Rattle.fields.specs.Pieces.{Bytes}
 use Rattle.fields.specs.Numbers.{numberOf, afterMinus, withoutMinus, amountOf}
 use Rattle.fields.specs.Digits.{digitsIn, firstDigits, amountIn}
-use Rattle.fields.specs.Places.{begins, sizeOf, numberTo, numberAt, numberUpTo, amountTo, amountAt, fieldAt}
+use Rattle.fields.specs.Places.{begins, sizeOf, numberTo, numberAt, numberFrom, amountTo, amountAt, fieldAt, hasMinus, negatedTo, isUnsigned}
 use Rattle.fields.specs.declared.Field.{Field}
 use Rattle.fields.specs.declared.Field.the-variants.{Number, NoNumber}
-use Rattle.fields.specs.declared.Amount.the-variants.{NoAmount}
 use Rattle.fields.specs.declared.Size.{Size}
 use Rattle.fields.specs.declared.Size.the-variants.{Within, Above}
 use Rattle.fields.specs.declared.FieldAt.{FieldAt}
 use Rattle.fields.specs.declared.FieldAt.the-variants.{Whole, NoWhole}
-use Rattle.fields.proofs.NumberLaws.{number-long, amount-long, amount-minus, amount-plain, minus-more, number-below}
+use Rattle.fields.proofs.NumberLaws.{number-long, amount-long, amount-minus, amount-plain, minus-more}
 use Rattle.fields.proofs.SpanLaws.{digits-length, amount-in-minus, amount-in-plain}
 use Rattle.fields.proofs.ReadingLaws.{in-limit, past-limit}
 
@@ -58,42 +59,88 @@ module _ (largest : ℕ) where
 
 pub ruleset number-size-laws = (needs, number-over, number-within, small-fits)
 
--- ---- what the number at a place says of the digits there
-module _ (most largest : ℕ) (s : Bytes) (at : ℕ) where
-  record Read (z : Size) (end : ℕ) : Type 0 where
-    few : digitsIn (drop at s) ≤ most
-    value : ℕ
-    number : numberOf (firstDigits (drop at s)) ≡ Number value
-    size : z ≡ sizeOf largest (pos value)
-    place : end ≡ at + digitsIn (drop at s)
-
-  some-read : (z : Size) (end : ℕ) → Whole z end ≡ numberUpTo most largest s at → Read z end
-  some-read z end e =
-      elim (decLe (digitsIn (drop at s)) most) [
-        | yes h ↦ go h (numberOf (firstDigits (drop at s))) refl (e ∙ in-limit most largest s at h)
-        | no h ↦ absurd (let z : _≡_ {A = ℕ} 0 1 = let p = past-limit most largest s at (omega arith) in cc in omega arith)
-      ]
-    where
-      go : digitsIn (drop at s) ≤ most → (f : Field) → numberOf (firstDigits (drop at s)) ≡ f
-          → Whole z end ≡ numberTo largest (at + digitsIn (drop at s)) f → Read z end
-      go h (Number n) q e = record { few = h; value = n; number = q; size = cc; place = cc }
-      go h NoNumber q e = absurd (let z : _≡_ {A = ℕ} 0 1 = cc in omega arith)
-
-  none-read : digitsIn (drop at s) ≤ most → NoWhole ≡ numberUpTo most largest s at → numberOf (firstDigits (drop at s)) ≡ NoNumber
-  none-read h e = go (numberOf (firstDigits (drop at s))) (e ∙ in-limit most largest s at h)
-    where
-      go : (f : Field) → NoWhole ≡ numberTo largest (at + digitsIn (drop at s)) f → f ≡ NoNumber
-      go (Number n) e = absurd (let z : _≡_ {A = ℕ} 0 1 = cc in omega arith)
-      go NoNumber e = refl
-
--- a number of more than 11 digits is none
-pub up-to-eleven : (largest : ℕ) (s : Bytes) (at : ℕ) → numberUpTo 11 largest s at ≡ numberAt largest s at
+-- ---- the number after so many bytes, as the definitions have it
+-- with none it is the number at the place: one of more than 11 digits is none
+from-none : (largest : ℕ) (s : Bytes) (at : ℕ) → numberFrom 0 largest s at ≡ numberAt largest s at
 unfolding numberAt
-up-to-eleven largest s at =
+from-none largest s at =
     elim (decLe (digitsIn (drop at s)) 11) [
-      | yes h ↦ in-limit 11 largest s at h
-      | no h ↦ let long = number-long (firstDigits (drop at s)) (omega (arith, digits-length (drop at s))) in past-limit 11 largest s at (omega arith) ∙ rw long
+      | yes h ↦ rw (add-zero at) at (in-limit 0 largest s at (rw (add-zero at) (omega arith)))
+      | no h ↦ let long = number-long (firstDigits (drop at s)) (omega (arith, digits-length (drop at s))) in
+          past-limit 0 largest s at (rw (add-zero at) (omega arith)) ∙ rw long
     ]
+
+-- it has no sign, and is no larger than any caller's largest
+size-unsigned : (largest end n : ℕ) → largest ≤ 4294967295 → T (isUnsigned (numberTo largest end (Number n)))
+size-unsigned largest end n wide =
+    elim (decLe n largest) [ yes h ↦ rw (le-leb n largest h, le-leb n 4294967295 (omega arith)) tt | no h ↦ rw (lt-leb n largest (omega arith)) tt ]
+
+number-unsigned : (largest end : ℕ) (f : Field) → largest ≤ 4294967295 → T (isUnsigned (numberTo largest end f))
+number-unsigned largest end (Number n) wide = size-unsigned largest end n wide
+number-unsigned largest end NoNumber wide = tt
+
+pub from-unsigned : (start largest : ℕ) (s : Bytes) (at : ℕ) → Fits w32 largest → (r : FieldAt) → r ≡ numberFrom start largest s at → T (isUnsigned r)
+from-unsigned start largest s at wide r is =
+    let most : largest ≤ 4294967295 = let small = wide .fits in omega arith in
+    let digits : Bytes = drop (at + start) s in
+    elim (decLe (start + digitsIn digits) 11) [
+      | yes h ↦ rw (is, in-limit start largest s at h) (number-unsigned largest (at + start + digitsIn digits) (numberOf (firstDigits digits)) most)
+      | no h ↦ rw (is, past-limit start largest s at (omega arith)) tt
+    ]
+
+-- ---- what a minus makes of a number
+record Natural (n : ℤ) : Type 0 where
+  value : ℕ
+  is : n ≡ pos value
+  small : value ≤ 4294967295
+
+natural : (n : ℤ) (end : ℕ) → T (isUnsigned (Whole (Within n) end)) → Natural n
+natural (pos v) end t =
+    elim (decLe v 4294967295) [ yes h ↦ record { value = v; is = refl; small = h } | no h ↦ absurd (rw (lt-leb v 4294967295 (omega arith)) at t) ]
+natural (negsuc v) end t = absurd t
+
+module _ (n : ℤ) (number : Natural n) where
+  value-is : ofZ w64 n ≡ number .value
+  value-is = ap (ofZ w64) (number .is)
+
+  negative : pos 0 -ℤ toZ w64 (ofZ w64 n) ≡ negℤ (pos (number .value))
+  negative = rw (value-is, toZ-pos w64 (number .value) (omega (arith, number .small))) (+ℤ-idl (negℤ (pos (number .value))))
+
+  held : SFits w64 (pos 0 -ℤ toZ w64 (ofZ w64 n))
+  held = rw negative (signed (number .value) (number .small))
+    where
+      signed : (v : ℕ) → v ≤ 4294967295 → SFits w64 (negℤ (pos v))
+      signed zero h = record { sfits = omega arith }
+      signed (suc v) h = record { sfits = omega arith }
+
+  zero-to : (end : ℕ) → ofZ w64 n ≡ 0 → NoWhole ≡ negatedTo (Whole (Within n) end)
+  zero-to end none = sym (ap (λ (m : ℤ). negatedTo (Whole (Within m) end)) (number .is ∙ ap pos (sym value-is ∙ none)))
+
+  within-to : (end : ℕ) → (ofZ w64 n ≡ 0 → ⊥) → Whole (Within (toZ w64 (ofZ w64 (pos 0 -ℤ toZ w64 (ofZ w64 n))))) end ≡ negatedTo (Whole (Within n) end)
+  within-to end some =
+      let other : number .value ≡ 0 → ⊥ = λ z. some (value-is ∙ z) in
+      let turned : negatedTo (Whole (Within (pos (number .value))) end) ≡ Whole (Within (negℤ (pos (number .value)))) end = rw (ne-eqb (number .value) 0 other) in
+      ap (λ (m : ℤ). Whole (Within m) end) (toZ-ofZ w64 (pos 0 -ℤ toZ w64 (ofZ w64 n)) held ∙ negative) ∙ sym turned ∙
+      ap (λ (m : ℤ). negatedTo (Whole (Within m) end)) (sym (number .is))
+
+module _ (r : FieldAt) (u : T (isUnsigned r)) (z : Size) (end : ℕ) (e : r ≡ Whole z end) where
+  pub above-negated : z ≡ Above → Whole Above end ≡ negatedTo r
+  above-negated a = rw (e, a)
+
+  module _ (n : ℤ) (w : z ≡ Within n) where
+    number : Natural n
+    number = natural n end (rw (e, w) at u)
+
+    pub negative-fits : SFits w64 (pos 0 -ℤ toZ w64 (ofZ w64 n))
+    negative-fits = held n number
+
+    pub zero-negated : ofZ w64 n ≡ 0 → NoWhole ≡ negatedTo r
+    zero-negated none = rw (e, w) (zero-to n number end none)
+
+    pub within-negated : (ofZ w64 n ≡ 0 → ⊥) → Whole (Within (toZ w64 (ofZ w64 (pos 0 -ℤ toZ w64 (ofZ w64 n))))) end ≡ negatedTo r
+    within-negated some = rw (e, w) (within-to n number end some)
+
+pub ruleset negated-laws = (needs, negative-fits)
 
 -- ---- the amount at a place
 -- without a minus it is the number there
@@ -116,118 +163,87 @@ plain-to : (largest end : ℕ) (f : Field) → numberTo largest end f ≡ amount
 plain-to largest end (Number n) = refl
 plain-to largest end NoNumber = refl
 
--- after a minus: above the largest, or zero, or below zero
-above : (largest end value : ℕ) → sizeOf largest (pos value) ≡ Above → amountTo largest end (afterMinus (Number value)) ≡ Whole Above end
-above largest end value a =
-    elim (decLe value largest) [
-      | yes h ↦ absurd (let z : _≡_ {A = ℕ} 0 1 = let l = le-leb value largest h in cc in omega arith)
-      | no h ↦ over value (omega arith)
-    ]
-  where
-    over : (value : ℕ) → largest < value → amountTo largest end (afterMinus (Number value)) ≡ Whole Above end
-    over zero h = absurd (omega arith)
-    over (suc n) h = rw (minus-more n, lt-leb (suc n) largest h)
+without-minus : (s : Bytes) (at largest : ℕ) → begins 45 (drop at s) ≡ false → numberAt largest s at ≡ amountAt largest s at
+unfolding numberAt amountAt
+without-minus s at largest plain =
+    plain-to largest (at + digitsIn (drop at s)) (numberOf (firstDigits (drop at s))) ∙
+    rw (in-plain (drop at s) plain, plain-amount (firstDigits (drop at s)) (plain-front (digitsIn (drop at s)) (drop at s) plain))
 
-record Inside (largest value : ℕ) (n : ℤ) : Type 0 where
-  is : n ≡ pos value
-  most : value ≤ largest
-
-within : (largest value : ℕ) (n : ℤ) → sizeOf largest (pos value) ≡ Within n → Inside largest value n
-within largest value n w =
-    elim (decLe value largest) [
-      | yes h ↦ let l = le-leb value largest h in record { is = cc; most = h }
-      | no h ↦ absurd (let z : _≡_ {A = ℕ} 0 1 = let l = lt-leb value largest (omega arith) in cc in omega arith)
+-- after a minus it is what the minus makes of that number
+minus-to : (largest end : ℕ) (f : Field) → amountTo largest end (afterMinus f) ≡ negatedTo (numberTo largest end f)
+minus-to largest end NoNumber = refl
+minus-to largest end (Number zero) = rw (le-leb 0 largest (omega arith))
+minus-to largest end (Number (suc n)) =
+    elim (decLe (suc n) largest) [
+      | yes h ↦ rw (minus-more n, le-leb (suc n) largest h, ne-eqb (suc n) 0 (λ e. omega arith))
+      | no h ↦ rw (minus-more n, lt-leb (suc n) largest (omega arith))
     ]
 
-below : (largest end value : ℕ) → (value ≡ 0 → ⊥) → value ≤ largest → Whole (Within (negℤ (pos value))) end ≡ amountTo largest end (afterMinus (Number value))
-below largest end zero some h = absurd (some refl)
-below largest end (suc n) some h = rw (minus-more n, le-leb (suc n) largest h)
-
-module _ (s : Bytes) (at largest : ℕ) (t : Bool) (q : t ≡ begins 45 (drop at s)) where
-  pub a-minus : t ≡ true → begins 45 (drop at s) ≡ true
-  a-minus h = sym q ∙ h
-
-  pub no-minus : t ≡ false → (r : FieldAt) → r ≡ numberUpTo 11 largest s at → r ≡ amountAt largest s at
-  unfolding numberAt amountAt
-  no-minus h r is =
-      let plain = sym q ∙ h in
-      is ∙ up-to-eleven largest s at ∙ plain-to largest (at + digitsIn (drop at s)) (numberOf (firstDigits (drop at s))) ∙
-      rw (in-plain (drop at s) plain, plain-amount (firstDigits (drop at s)) (plain-front (digitsIn (drop at s)) (drop at s) plain))
-
-module _ (s : Bytes) (at largest : ℕ) (h : begins 45 (drop at s) ≡ true) where
+module _ (s : Bytes) (at : ℕ) (h : begins 45 (drop at s) ≡ true) where
   abbrev after : Bytes
   after = drop (at + 1) s
 
   text-is : drop at s ≡ 45 ∷ after
   text-is = begins-is 45 (drop at s) h ∙ ap (λ (u : Bytes). 45 ∷ u) (drop-drop 1 at s)
 
-  pub minus-there : at + 1 ≤ length s
+  minus-there : at + 1 ≤ length s
   minus-there = omega (arith, length-drop at s, ap length text-is)
 
-  amount-is : amountAt largest s at ≡ amountTo largest (at + 1 + digitsIn after) (amountOf (45 ∷ firstDigits after))
+  amount-is : (largest : ℕ) → amountAt largest s at ≡ amountTo largest (at + 1 + digitsIn after) (amountOf (45 ∷ firstDigits after))
   unfolding amountAt
-  amount-is =
+  amount-is largest =
       let end : at + suc (digitsIn after) ≡ at + 1 + digitsIn after = omega arith in
       rw (text-is, amount-in-minus after, end)
 
-  pub minus-other : (most : ℕ) → 10 ≤ most → (r : FieldAt) → r ≡ numberUpTo most largest s (at + 1) → r ≡ NoWhole → NoWhole ≡ amountAt largest s at
-  minus-other most l r is e = sym (amount-is ∙ ap (amountTo largest (at + 1 + digitsIn after)) none)
-    where
-      none : amountOf (45 ∷ firstDigits after) ≡ NoAmount
-      none =
-          elim (decLe (digitsIn after) 10) [
-            | yes h ↦ amount-minus (firstDigits after) (omega (arith, digits-length after)) ∙
-                ap afterMinus (none-read most largest s (at + 1) (omega arith) (sym e ∙ is))
-            | no h ↦ amount-long (45 ∷ firstDigits after) (omega (arith, digits-length after))
-          ]
-
-  module _ (r : FieldAt) (is : r ≡ numberUpTo 10 largest s (at + 1)) (z : Size) (end : ℕ) (e : r ≡ Whole z end) where
-    found : Read 10 largest s (at + 1) z end
-    found = some-read 10 largest s (at + 1) z end (sym e ∙ is)
-
-    is-after : amountAt largest s at ≡ amountTo largest end (afterMinus (Number (found .value)))
-    is-after =
-        let short = amount-minus (firstDigits after) (omega (arith, digits-length after, found .few)) in
-        amount-is ∙ rw (short, found .number, ← found .place)
-
-    pub minus-above : z ≡ Above → Whole Above end ≡ amountAt largest s at
-    minus-above a = sym (is-after ∙ above largest end (found .value) (sym (found .size) ∙ a))
-
-    module _ (n : ℤ) (w : z ≡ Within n) where
-      inside : Inside largest (found .value) n
-      inside = within largest (found .value) n (sym (found .size) ∙ w)
-
-      small : found .value < 10 ^ 11
-      small = number-below (firstDigits after) (found .number)
-
-      negative : pos 0 -ℤ toZ w64 (ofZ w64 n) ≡ negℤ (pos (found .value))
-      negative = rw (inside .is, toZ-pos w64 (found .value) (omega (arith, small))) (+ℤ-idl (negℤ (pos (found .value))))
-
-      pub negative-fits : SFits w64 (pos 0 -ℤ toZ w64 (ofZ w64 n))
-      negative-fits = rw negative (signed (found .value) small)
-        where
-          signed : (v : ℕ) → v < 10 ^ 11 → SFits w64 (negℤ (pos v))
-          signed zero h = record { sfits = omega arith }
-          signed (suc v) h = record { sfits = omega arith }
-
-      pub minus-nothing : ofZ w64 n ≡ 0 → NoWhole ≡ amountAt largest s at
-      minus-nothing none =
-          let zero-is : found .value ≡ 0 = rw (inside .is) at none in
-          sym (is-after ∙ ap (λ (v : ℕ). amountTo largest end (afterMinus (Number v))) zero-is)
-
-      pub minus-within : (ofZ w64 n ≡ 0 → ⊥) → Whole (Within (toZ w64 (ofZ w64 (pos 0 -ℤ toZ w64 (ofZ w64 n))))) end ≡ amountAt largest s at
-      minus-within some =
-          let held = toZ-ofZ w64 (pos 0 -ℤ toZ w64 (ofZ w64 n)) negative-fits ∙ negative in
-          ap (λ (v : ℤ). Whole (Within v) end) held ∙ below largest end (found .value) (rw (inside .is) at some) (inside .most) ∙ sym is-after
-
-module _ (s : Bytes) (at : ℕ) (signed : Bool) (largest : ℕ) (r : FieldAt) where
-  pub as-amount : signed ≡ true → r ≡ amountAt largest s at → r ≡ fieldAt signed largest s at
-  as-amount h e = rw h e
-
-  pub as-number : signed ≡ false → r ≡ numberUpTo 11 largest s at → r ≡ fieldAt signed largest s at
-  as-number h e = rw h (e ∙ up-to-eleven largest s at)
-
-pub ruleset minus-laws = (needs, minus-there, negative-fits)
+  with-minus : (largest : ℕ) → negatedTo (numberFrom 1 largest s at) ≡ amountAt largest s at
+  with-minus largest =
+      elim (decLe (1 + digitsIn after) 11) [
+        | yes h ↦ sym (amount-is largest ∙ rw (amount-minus (firstDigits after) (omega (arith, digits-length after)))
+            (minus-to largest (at + 1 + digitsIn after) (numberOf (firstDigits after)) ∙ rw (in-limit 1 largest s at h)))
+        | no h ↦ sym (amount-is largest ∙ rw (amount-long (45 ∷ firstDigits after) (omega (arith, digits-length after)), past-limit 1 largest s at (omega arith)))
+      ]
 
 -- ---- the number of a field with a sign, or without
-pub ruleset place-laws = (needs, a-minus, no-minus, as-amount, as-number)
+pub without-sign : (signed : Bool) (t : Bytes) → not signed ≡ true → false ≡ hasMinus signed t
+without-sign signed t h = rw (not-true signed h)
+
+pub with-sign : (signed : Bool) (t : Bytes) (r : Bool) → not signed ≡ false → r ≡ begins 45 t → r ≡ hasMinus signed t
+with-sign signed t r h e = rw (not-false signed h) e
+
+pub ruleset sign-laws = (needs, without-sign, with-sign)
+
+no-minus : {P : Type 0} → false ≡ true → P
+no-minus e = absurd (let z : _≡_ {A = ℕ} 0 1 = cc in omega arith)
+
+minus-begins : (signed : Bool) (t : Bytes) → hasMinus signed t ≡ true → begins 45 t ≡ true
+minus-begins true t e = e
+minus-begins false t e = no-minus e
+
+minus-amount : (signed : Bool) (largest : ℕ) (s : Bytes) (at : ℕ) → hasMinus signed (drop at s) ≡ true → negatedTo (numberFrom 1 largest s at) ≡ fieldAt signed largest s at
+minus-amount true largest s at e = with-minus s at e largest
+minus-amount false largest s at e = no-minus e
+
+plain-number : (signed : Bool) (largest : ℕ) (s : Bytes) (at : ℕ) → hasMinus signed (drop at s) ≡ false → numberFrom 0 largest s at ≡ fieldAt signed largest s at
+plain-number true largest s at e = from-none largest s at ∙ without-minus s at largest e
+plain-number false largest s at e = from-none largest s at
+
+pub start-short : (m : Bool) → boolByte m ≤ 11
+start-short true = omega arith
+start-short false = omega arith
+
+module _ (signed : Bool) (s : Bytes) (at : ℕ) (m : Bool) (q : m ≡ hasMinus signed (drop at s)) where
+  pub start-within : at ≤ length s → at + boolByte m ≤ length s
+  start-within h = go m q
+    where
+      go : (m : Bool) → m ≡ hasMinus signed (drop at s) → at + boolByte m ≤ length s
+      go true q = minus-there s at (minus-begins signed (drop at s) (sym q))
+      go false q = omega arith
+
+  module _ (largest : ℕ) (read : FieldAt) (is : read ≡ numberFrom (boolByte m) largest s at) where
+    pub as-amount : m ≡ true → (r : FieldAt) → r ≡ negatedTo read → r ≡ fieldAt signed largest s at
+    as-amount h r e = e ∙ ap negatedTo (is ∙ ap (λ (b : Bool). numberFrom (boolByte b) largest s at) h) ∙ minus-amount signed largest s at (sym q ∙ h)
+
+    pub as-number : m ≡ false → read ≡ fieldAt signed largest s at
+    as-number h = is ∙ ap (λ (b : Bool). numberFrom (boolByte b) largest s at) h ∙ plain-number signed largest s at (sym q ∙ h)
+
+pub ruleset start-laws = (needs, start-short, start-within)

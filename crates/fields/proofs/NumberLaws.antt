@@ -3,49 +3,27 @@ use Prim.Native.Nat.{ℕ, zero, suc, _+_, _*_, _-_, _^_, _≤_, _<_}
 use native.Mathlib.Decide.{decLe, ℕ-discrete}
 use native.Mathlib.Nat.{pow-le-pow-right}
 use native.Mathlib.Omega.{arith}
-use mathlib.Core.Bool.{true, false}
+use mathlib.Core.Bool.{cond}
 use mathlib.Core.Path.{_≡_, refl, sym, ap, _∙_}
 use mathlib.Core.List.{[], _∷_, append-nil}
-use borrow.Author.Needs.{needs}
-use borrow.Author.Tests.{le-leb, lt-leb, eq-eqb, ne-eqb, eqb-false}
-use lib.Dec.{eqb, lit<}
+use borrow.Author.Tests.{le-leb, lt-leb, eq-eqb, ne-eqb}
+use lib.Dec.{leb, lit<}
 use lib.IntN.{ℤ, pos, negsuc, natAbs}
 use lib.ListN.{length, getD}
 use Rattle.fields.specs.Pieces.{Bytes}
 use Rattle.fields.specs.Numbers.{longestField, digitsOf, numberOf, afterMinus, withoutMinus, amountOf, decimalIn, decimal, amountText}
-use Rattle.fields.specs.Digits.{leadingZero}
 use Rattle.fields.specs.declared.Field.{Field}
 use Rattle.fields.specs.declared.Field.the-variants.{Number, NoNumber}
+use Rattle.fields.specs.declared.Amount.{Amount}
 use Rattle.fields.specs.declared.Amount.the-variants.{By, NoAmount}
 use Rattle.fields.proofs.Each.{Each, one, each-map}
 use Rattle.fields.proofs.PieceLaws.{Without}
 use Rattle.fields.proofs.DigitLaws.{Digit, number-is, no-number, first-digit, rest-digits, digits-below, decimal-one, written-digits, written-some, written-most, written-short, leading-zero, read-written, write-read}
 
--- ---- a zero in front of another byte
-pub short-leading : (f : Bytes) → length f < 2 → false ≡ leadingZero f
-unfolding leadingZero
-short-leading [] h = refl
-short-leading (b ∷ []) h = refl
-short-leading (b ∷ c ∷ bs) h = absurd (omega arith)
-
-pub first-leading : (f : Bytes) → 2 ≤ length f → eqb (getD f 0 0) 48 ≡ leadingZero f
-unfolding leadingZero
-first-leading [] h = absurd (omega arith)
-first-leading (b ∷ []) h = absurd (omega arith)
-first-leading (b ∷ c ∷ bs) h = refl
-
-pub ruleset leading-laws = (needs, short-leading, first-leading)
-
 -- ---- which fields are read as numbers
 pub number-none : numberOf [] ≡ NoNumber
 unfolding numberOf
 number-none = refl
-
-pub number-leading : (f : Bytes) → leadingZero f ≡ true → numberOf f ≡ NoNumber
-unfolding numberOf leadingZero
-number-leading [] e = refl
-number-leading (b ∷ []) e = absurd (let z : _≡_ {A = ℕ} 0 1 = cc in omega arith)
-number-leading (b ∷ c ∷ bs) e = rw e
 
 pub number-zero : (f : Bytes) → 1 < length f → getD f 0 0 ≡ 48 → numberOf f ≡ NoNumber
 unfolding numberOf
@@ -86,15 +64,6 @@ number-digits (b ∷ []) h = refl
 number-digits (b ∷ c ∷ bs) h =
     let more : b ≡ 48 → ⊥ = λ z. omega (arith, h .leading z) in
     simp (ne-eqb b 48 more, le-leb (length (b ∷ c ∷ bs)) longestField (omega arith))
-
-pub number-whole : (f : Bytes) → 1 ≤ length f → length f ≤ 11 → leadingZero f ≡ false → numberOf f ≡ digitsOf f 0
-unfolding leadingZero
-number-whole f some short e = number-digits f (record { some = some; short = short; leading = alone f e })
-  where
-    alone : (f : Bytes) → leadingZero f ≡ false → getD f 0 0 ≡ 48 → length f ≡ 1
-    alone [] e z = absurd (omega arith)
-    alone (b ∷ []) e z = refl
-    alone (b ∷ c ∷ bs) e z = absurd (eqb-false b 48 e z)
 
 -- ---- what a number that is read says
 module _ (f : Bytes) {n : ℕ} (e : numberOf f ≡ Number n) where
@@ -158,7 +127,10 @@ by-is e = cc
 pub amount-long : (f : Bytes) → 11 < length f → amountOf f ≡ NoAmount
 unfolding amountOf
 amount-long [] h = refl
-amount-long (b ∷ bs) h = simp (lt-leb (length (b ∷ bs)) longestField (omega arith))
+amount-long (b ∷ bs) h = search too-long
+  where
+    too-long : (n : ℕ) (a : Amount) → longestField < n → cond (leb n longestField) a NoAmount ≡ NoAmount
+    too-long n a l = rw (lt-leb n longestField l)
 
 pub amount-minus : (bs : Bytes) → length bs ≤ 10 → amountOf (45 ∷ bs) ≡ afterMinus (numberOf bs)
 unfolding amountOf

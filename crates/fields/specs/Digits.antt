@@ -1,6 +1,6 @@
--- What the code uses: the digits that a text begins with.
+-- What the code uses: the digits that a text begins with, also after a minus, and a zero that is the only one.
 use Prim.Native.Nat.{ℕ, suc}
-use mathlib.Core.Bool.{Bool, false, cond}
+use mathlib.Core.Bool.{Bool, false, cond, _&&_}
 use mathlib.Core.List.{[], _∷_}
 use lib.Dec.{eqb}
 use lib.ListN.{take}
@@ -21,13 +21,11 @@ digitsIn (b ∷ bs) = cond (isDigit b) (suc (digitsIn bs)) 0
 abbrev pub firstDigits : Bytes → Bytes
 firstDigits t = take (digitsIn t) t
 
--- how many bytes they are with a minus in front, where there is one
+-- how many bytes a text begins with that are digits, or a minus and digits
 unfoldable pub amountIn : Bytes → ℕ
 amountIn [] = 0
 amountIn (b ∷ bs) = cond (eqb b 45) (suc (digitsIn bs)) (digitsIn (b ∷ bs))
 
--- a zero in front of another byte
-unfoldable pub leadingZero : Bytes → Bool
-leadingZero [] = false
-leadingZero (b ∷ []) = false
-leadingZero (b ∷ c ∷ bs) = eqb b 48
+-- whether so many digits, which spell this number, are one zero
+unfoldable pub loneZero : ℕ → ℕ → Bool
+loneZero count value = eqb count 1 && eqb value 0

@@ -1,13 +1,13 @@
 // A text by its places: where a byte stands, whether two pieces are the same bytes, and the number that stands at a place. A number ends at the
 // first byte that is no digit; whether that byte may stand there is asked by whoever reads the line.
-ghost use mathlib.Core.Bool.{true};
 ghost use mathlib.Core.Path.{_≡_};
-ghost use Prim.Native.Nat.{_≤_};
+ghost use Prim.Native.Nat.{_+_, _≤_};
+ghost use lib.Dec.{T};
 ghost use lib.IntN.{pos};
 ghost use lib.ListN.{length, drop};
 ghost use Rattle.fields.specs.Pieces.{sameBytes};
-ghost use Rattle.fields.specs.Digits.{beginsDigit, leadingZero};
-ghost use Rattle.fields.specs.Places.{begins, sizeOf, numberUpTo, amountAt, fieldAt, before};
+ghost use Rattle.fields.specs.Digits.{beginsDigit, loneZero};
+ghost use Rattle.fields.specs.Places.{begins, hasMinus, sizeOf, isUnsigned, negatedTo, numberFrom, fieldAt, before};
 
 // What a number field is, in the definitions: a number, whatever its range, or none. No code makes one.
 pub enum Field {
@@ -33,7 +33,7 @@ pub enum FieldAt {
     NoWhole,
 }
 
-// A number field has at most so many bytes.
+// A number field has at most so many bytes, a minus among them.
 const LONGEST_FIELD: usize = 11;
 
 // How many bytes of s stand before the first x.
@@ -82,16 +82,6 @@ fn is_digit_at(s: &[u8], at: usize) -> bool
     b <= b'9'
 }
 
-// Whether a zero stands in front of another byte.
-fn has_leading_zero(f: &[u8]) -> bool
-    ensures { λ r. ⌜ r ≡ leadingZero (now (f .entry)) ⌝ }
-{
-    if f.len() < 2 {
-        return false;
-    }
-    f[0] == b'0'
-}
-
 // A number against its caller's largest.
 fn number_size(largest: u32, number: u64) -> Size
     ensures { λ r. ⌜ r ≡ sizeOf largest (pos number) ⌝ }
@@ -102,42 +92,63 @@ fn number_size(largest: u32, number: u64) -> Size
     Size::Within(number as i64)
 }
 
-// The number that stands at a place, of at most `most` digits, with no zero in front of another digit. One digit is read a turn: `position` is how
-// many of the field's digits have been read, and `value` the number that they spell.
-fn number_at(s: &[u8], at: usize, most: usize, largest: u32) -> FieldAt
-    requires { ⌜ at ≤ length (now s) ⌝ }
-    requires { ⌜ most ≤ 11 ⌝ }
-    ensures { λ r. ⌜ r ≡ numberUpTo most largest (now (s .entry)) at ⌝ }
+// Whether so many digits, which spell this number, are one zero.
+fn is_lone_zero(count: usize, value: u64) -> bool
+    ensures { λ r. ⌜ r ≡ loneZero count value ⌝ }
 {
-    let mut position: usize = 0;
+    if count != 1 {
+        return false;
+    }
+    value == 0
+}
+
+// The number of a field at a place, whose digits begin after `start` of its bytes, none or a minus: at least one digit, no zero in front of another digit,
+// and no more bytes than a field has. One digit is read a turn: `position` is how many of the field's bytes have been read, and `value` the number that
+// the digits among them spell.
+fn number_at(s: &[u8], at: usize, start: usize, largest: u32) -> FieldAt
+    requires { ⌜ at + start ≤ length (now s) ⌝ }
+    requires { ⌜ start ≤ 11 ⌝ }
+    ensures { λ r. ⌜ r ≡ numberFrom start largest (now (s .entry)) at ⌝ }
+{
+    let mut position = start;
     let mut value: u64 = 0;
     while is_digit_at(s, at + position) {
-        if position == most {
+        // A zero in front of another digit.
+        if is_lone_zero(position - start, value) {
+            return FieldAt::NoWhole;
+        }
+        // One byte too many.
+        if position == LONGEST_FIELD {
             return FieldAt::NoWhole;
         }
         value = value * 10 + ((s[at + position] - b'0') as u64);
         position += 1;
     }
-    if position == 0 {
-        return FieldAt::NoWhole;
-    }
-    let end = at + position;
-    if has_leading_zero(&s[at..end]) {
+    if position == start {
         return FieldAt::NoWhole;
     }
     FieldAt::Whole {
         number: number_size(largest, value),
-        end,
+        end: at + position,
     }
 }
 
-// The rotation amount that begins with a minus at a place: minus the number after it, which may not be zero. The minus is one of the field's bytes.
-fn negative_at(s: &[u8], at: usize, largest: u32) -> FieldAt
-    requires { ⌜ at ≤ length (now s) ⌝ }
-    requires { ⌜ begins 45 (drop at (now s)) ≡ true ⌝ }
-    ensures { λ r. ⌜ r ≡ amountAt largest (now (s .entry)) at ⌝ }
+// Whether the field at a place begins with a minus. None is looked for in a field that may have no sign.
+fn has_minus(s: &[u8], at: usize, signed: bool) -> bool
+    ensures { λ r. ⌜ r ≡ hasMinus signed (drop at (now (s .entry))) ⌝ }
 {
-    let FieldAt::Whole { number, end } = number_at(s, at + 1, LONGEST_FIELD - 1, largest) else {
+    if !signed {
+        return false;
+    }
+    is_at(s, at, b'-')
+}
+
+// What a minus makes of the number that was read after it, which may not be zero. A number above the largest stays above it.
+fn negated(read: FieldAt) -> FieldAt
+    requires { ⌜ T (isUnsigned read) ⌝ }
+    ensures { λ r. ⌜ r ≡ negatedTo read ⌝ }
+{
+    let FieldAt::Whole { number, end } = read else {
         return FieldAt::NoWhole;
     };
     let Size::Within(n) = number else {
@@ -155,24 +166,16 @@ fn negative_at(s: &[u8], at: usize, largest: u32) -> FieldAt
     }
 }
 
-// The rotation amount that stands at a place.
-fn amount_at(s: &[u8], at: usize, largest: u32) -> FieldAt
-    requires { ⌜ at ≤ length (now s) ⌝ }
-    ensures { λ r. ⌜ r ≡ amountAt largest (now (s .entry)) at ⌝ }
-{
-    if is_at(s, at, b'-') {
-        return negative_at(s, at, largest);
-    }
-    number_at(s, at, LONGEST_FIELD, largest)
-}
-
-// The number of a field with a sign, or without, that stands at a place, against the largest that the caller allows.
+// The number of a field, which may have a sign or may not, that stands at a place, against the largest that the caller allows.
 pub fn field_at(s: &[u8], at: usize, signed: bool, largest: u32) -> FieldAt
     requires { ⌜ at ≤ length (now s) ⌝ }
     ensures { λ r. ⌜ r ≡ fieldAt signed largest (now (s .entry)) at ⌝ }
 {
-    if signed {
-        return amount_at(s, at, largest);
+    let minus = has_minus(s, at, signed);
+    // A minus is one byte before the digits.
+    let read = number_at(s, at, minus as usize, largest);
+    if minus {
+        return negated(read);
     }
-    number_at(s, at, LONGEST_FIELD, largest)
+    read
 }
