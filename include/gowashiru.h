@@ -81,7 +81,9 @@ struct gowashiru_reply {
     uint32_t number, file, place, length;
 };
 
-/* Plans a circuit: writes its schedule to out. Refuses with 1 to 6, 11, 13. */
+/* Plans a circuit: writes its schedule to out. At each ciphertext line of the circuit, its `out` lines too, no schedule that keeps the rules
+ * at the same header and erases to this circuit has more reserve, whatever its length. A circuit that is planned is refused with 6 at no
+ * higher top level up to 60. Refuses with 1 to 6, 11, 13. */
 struct gowashiru_reply gowashiru_plan(const uint8_t *circuit, size_t circuit_len, uint8_t *out, size_t out_len);
 
 /* Checks a schedule against a circuit. Refuses with 1 to 5, 7 to 12. */
@@ -91,8 +93,8 @@ struct gowashiru_reply gowashiru_check(const uint8_t *circuit, size_t circuit_le
 /* Erases a schedule to its circuit, whether or not it keeps the rules: writes the circuit to out. Refuses with 1 to 5, 11, 13. */
 struct gowashiru_reply gowashiru_erase(const uint8_t *schedule, size_t schedule_len, uint8_t *out, size_t out_len);
 
-/* The least top level at which a circuit has a schedule, as length. The header's own level is only tested for its range; its H holds at
- * each level that is tried. Refuses with 1 to 6, 11. */
+/* The least top level at which a circuit has a schedule, as length; it has one at every level from there to 60. The header's own level is
+ * only tested for its range; its H holds at each level that is tried. Refuses with 1 to 6, 11. */
 struct gowashiru_reply gowashiru_least_level(const uint8_t *circuit, size_t circuit_len);
 
 /*

@@ -5,7 +5,7 @@
 # is not run. The pages' pictures are drawn anew. The archive is built before.
 set -euo pipefail
 cd "$(dirname "${BASH_SOURCE[0]}")/.."
-replies_stored=76
+replies_stored=77
 folder=target/tests/format
 rm -rf "$folder"
 mkdir -p "$folder"

@@ -17,7 +17,8 @@ struct command {
 static const struct command commands[] = {
     {"plan", 0, 1, run_plan,
      "usage: gowashiru plan [-o FILE] [CIRCUIT]\n\n"
-     "Prints the schedule of a circuit: the one that leaves each ciphertext line of the circuit the most reserve.\n"
+     "Prints the schedule of a circuit. Each ciphertext line of the circuit, out too, has in it the most reserve that the\n"
+     "line has in any schedule at this header.\n"
      "Refused with 6 when no schedule of any length fits at the header's L and H.\n"},
     {"check", 2, 2, run_check,
      "usage: gowashiru check [-o FILE] CIRCUIT SCHEDULE\n\n"
@@ -29,7 +30,7 @@ static const struct command commands[] = {
     {"least-level", 0, 1, run_least_level,
      "usage: gowashiru least-level [-o FILE] [CIRCUIT]\n\n"
      "Prints the least top level L at which the circuit has a schedule. The header's own L is only tested for its range.\n"
-     "Its H, where it has one, holds at each level that is tried.\n"},
+     "Its H, where it has one, holds at each level that is tried. The circuit fits at every higher level up to 60, too.\n"},
     {"quote", 0, 1, run_quote,
      "usage: gowashiru quote [-o FILE] [CIRCUIT]\n\n"
      "Prints the lines, the bytes and the price of a circuit's schedule without writing it. Lines, the header's among them,\n"

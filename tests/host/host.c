@@ -920,6 +920,36 @@ static void try_headroom_of_plans(void)
     expect(add_least(with_headroom("circuit", "1\t30\t1", "31", "in\n")), 6, 1, 2);
 }
 
+/* The circuit with this top level in its header, the third number there. */
+static const struct input *with_level(const struct input *circuit, int level)
+{
+    char name[64];
+    const char *text = (const char *)circuit->bytes, *end = text + circuit->length, *third = text;
+    for (int tabs = 0; tabs < 3; third++)
+        tabs += *third == '\t';
+    const char *rest = third + strspn(third, "0123456789");
+    put("%.*s%d%.*s", (int)(third - text), text, level, (int)(end - rest), rest);
+    snprintf(name, sizeof name, "L %d of %.40s", level, circuit->name);
+    return take(name);
+}
+
+/* What fits at one top level fits at every higher one up to 60: planning says 6 below the least level, and from there on never. */
+static void try_levels(const char *name)
+{
+    const struct input *circuit = find(name);
+    int least = (int)add_least(circuit)->reply.length;
+    if (least == 0)
+        die("%s fits at no level", name);
+    for (int level = 1; level <= 60; level++) {
+        const struct job *plan = add_plan(with_level(circuit, level), ENOUGH);
+        if (plan->reply.number != (level < least ? 6 : 0))
+            fail(plan, "number %" PRIu32 ", and the least level is %d", plan->reply.number, least);
+        if (level >= least)
+            expect_level(add_least(plan->file), (uint32_t)least);
+    }
+    expect(add_plan(with_level(circuit, 61), ENOUGH), 2, 1, 1);
+}
+
 /* A scale with which H just fills the modulus, and one bit more: at an input, an encoded constant and an upscale. */
 static void try_headroom_of_scales(void)
 {
@@ -1208,6 +1238,8 @@ static void first_pass(const char *folder)
     try_constants();
     try_large_constants();
     try_headroom_of_plans();
+    try_levels("detune.circuit");
+    try_levels("wavetables.circuit");
     try_headroom_of_scales();
     try_another_headroom();
     try_headroom_of_listings();

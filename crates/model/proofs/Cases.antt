@@ -6,7 +6,7 @@ use mathlib.Core.List.{List, [], _∷_, _++_, zipWith}
 use lib.Dec.{T}
 use lib.ListN.{length, getD}
 use Rattle.model.specs.Scales.{headroom}
-use Rattle.model.specs.Worked.{Case, inputFormed, allFormed, endsOf, machineCases, planCases, constantCases, headroomCases, headroomPlans, cases, noCase}
+use Rattle.model.specs.Worked.{Case, inputFormed, allFormed, endsOf, machineCases, reserveCases, planCases, constantCases, headroomCases, headroomPlans, cases, noCase}
 use Rattle.model.proofs.Statements.WorkedCases as WorkedCases
 use Rattle.model.proofs.Tests.{and-first, and-second}
 
@@ -18,6 +18,10 @@ EndSo (c ∷ cs) = (endsOf (c .asked) (c .input) ≡ c .ends) × EndSo cs
 machines-tested : EndSo machineCases
 unfolding headroom zipWith
 machines-tested = (refl, (refl, (refl, (refl, (refl, (refl, (refl, (refl, (refl, tt)))))))))
+
+reserves-tested : EndSo reserveCases
+unfolding headroom
+reserves-tested = (refl, (refl, (refl, (refl, (refl, (refl, (refl, (refl, (refl, tt)))))))))
 
 plans-tested : EndSo planCases
 unfolding headroom
@@ -58,5 +62,6 @@ worked k u =
     let headrooms = both-tested headroomCases headroomPlans headroom-tested headroom-plans-tested in
     let last = both-tested constantCases (headroomCases ++ headroomPlans) constants-tested headrooms in
     let plans = both-tested planCases (constantCases ++ headroomCases ++ headroomPlans) plans-tested last in
-    let tested = both-tested machineCases (planCases ++ constantCases ++ headroomCases ++ headroomPlans) machines-tested plans in
+    let reserves = both-tested reserveCases (planCases ++ constantCases ++ headroomCases ++ headroomPlans) reserves-tested plans in
+    let tested = both-tested machineCases (reserveCases ++ planCases ++ constantCases ++ headroomCases ++ headroomPlans) machines-tested reserves in
     record { formed = all-formed cases formed k u; ends-so = all-end-so cases tested k u }

@@ -26,6 +26,7 @@ use Rattle.rows.specs.Rows.{placeOf}
 use Rattle.model.specs.Files.{isWord, inRange, isCiphertext, isConstant, isEncoded, isPair, wellFormed}
 use Rattle.model.specs.Machine.{Step, Run, finished, stopped, andThen, heldBy, step, run}
 use Rattle.model.specs.Rules.{Rule, Bounds, hasScale, KeepsRules}
+use Rattle.model.specs.Demands.{isCiphertextLine}
 use Rattle.model.specs.declared.Found.{Found}
 use Rattle.model.specs.declared.Found.the-variants as Founds
 use Rattle.model.specs.Answers.{bounded, onBare, onCiphertext, onPair, sum, product, checkMachine, rulesAnswer}
@@ -112,6 +113,7 @@ left-over a b c e = ≡-goal (pos a -ℤ pos b) (pos c) (omega (arith, parts- (p
 -- line x, the i-th, holds v
 pub record Ruled (h : Header) (found : List Found) (i : ℕ) (x : Line) (v : Found) : Type 0 where
   pub in-bounds : InBounds h v
+  pub is-ciphertext : T (isCiphertextLine x) → foundKind v ≡ Ciphertext
   pub bounds : T (hasScale x) → Bounds h (scaleOf v) (levelOf v)
   pub rule : scaleIn found i ≡ scaleOf v → levelIn found i ≡ levelOf v → Rule h (scaleIn found) (levelIn found) i x
 
@@ -119,7 +121,7 @@ module _ (h : Header) (in-range : T (headerInRange h)) (found : List Found) (i :
   bounded-ruled : (x : Line) (s l : ℤ) → (Tested h s l → scaleIn found i ≡ positive s → levelIn found i ≡ positive l → Rule h (scaleIn found) (levelIn found) i x)
       → Outcome AnyReason (Ruled h found i x) (bounded h Founds.Ciphertext s l)
   bounded-ruled x s l k = on-bounded AnyReason (Ruled h found i x) h Founds.Ciphertext s l
-      (λ t u. let p = tested h (header-facts h in-range .waterline .least) s l t u in record { in-bounds = p .bounds; bounds = λ c. p .bounds; rule = k p }) tt tt
+      (λ t u. let p = tested h (header-facts h in-range .waterline .least) s l t u in record { in-bounds = p .bounds; is-ciphertext = λ c. refl; bounds = λ c. p .bounds; rule = k p }) tt tt
 
   module _ (ins : ℕ) (held : List Found) (among : (a : ℕ) (v : Found) → getElem? held a ≡ some v → getElem? found a ≡ some v) where
     one : (x : Line) (a : ℕ) (f : Found → Step Found ℕ) → ((v : Found) → scaleIn found a ≡ scaleOf v → levelIn found a ≡ levelOf v → Outcome AnyReason (Ruled h found i x) (f v))
@@ -147,7 +149,7 @@ module _ (h : Header) (in-range : T (headerInRange h)) (found : List Found) (i :
 
     pub ruled : (x : Line) → Outcome AnyReason (Ruled h found i x) (step (checkMachine h) ins held x)
     ruled In = bounded-ruled In (pos (h .waterline)) (pos (h .top)) (λ t p q. (p, q))
-    ruled (Const k) = record { in-bounds = tt; bounds = λ c. absurd c; rule = λ p q. tt }
+    ruled (Const k) = record { in-bounds = tt; is-ciphertext = λ c. absurd c; bounds = λ c. absurd c; rule = λ p q. tt }
     ruled (Neg a) = unary (Neg a) a (λ s l. pos s) (λ s l. pos l) (λ s l p q t r u. omega arith)
     ruled (Rot a n) = unary (Rot a n) a (λ s l. pos s) (λ s l. pos l) (λ s l p q t r u. omega arith)
     ruled (Add a b) = binary (Add a b) a b (sum h) (λ s l s′ l′ p q r u. on-sum AnyReason (Ruled h found i (Add a b)) h s l s′ l′ (λ t. tt) (λ t. tt)
@@ -158,7 +160,7 @@ module _ (h : Header) (in-range : T (headerInRange h)) (found : List Found) (i :
     ruled (Enc a s e) = one (Enc a s e) a (onBare (bounded h Founds.Encoded (pos s) (pos e)))
         (λ v p q. on-bare AnyReason (Ruled h found i (Enc a s e)) (bounded h Founds.Encoded (pos s) (pos e)) v (λ t. tt)
         (on-bounded AnyReason (Ruled h found i (Enc a s e)) h Founds.Encoded (pos s) (pos e)
-        (λ t u. let y = tested h (header-facts h in-range .waterline .least) (pos s) (pos e) t u in record { in-bounds = y .bounds; bounds = λ c. y .bounds; rule = λ r w. (r, w) })
+        (λ t u. let y = tested h (header-facts h in-range .waterline .least) (pos s) (pos e) t u in record { in-bounds = y .bounds; is-ciphertext = λ c. absurd c; bounds = λ c. y .bounds; rule = λ r w. (r, w) })
         tt tt))
     ruled (Rs a c) = unary (Rs a c) a (λ s l. pos s -ℤ pos (h .factor * c)) (λ s l. pos l -ℤ pos c)
         (λ s l p q t r u. omega (arith, taken s (h .factor * c) (t .whole-scale), taken l c (t .whole-level)))

@@ -15,6 +15,7 @@ pub mod Higher
 pub mod Outcomes
 pub mod Formed
 pub mod Checked
+pub mod FoundNumbers
 pub mod Reason
 pub mod Broken
 pub mod Compared

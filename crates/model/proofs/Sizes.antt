@@ -3,8 +3,7 @@ use Prim.Native.Nat.{ℕ, zero, suc, _+_, _-_, _*_, _/_, _^_, _≤_, _<_}
 use native.Mathlib.Nat.{mul-comm, mul-div-cancel, pow-suc}
 use native.Mathlib.Omega.{arith}
 use mathlib.Core.Path.{_≡_, refl, ap, _∙_}
-use mathlib.Core.Bool.{Bool}
-use mathlib.Core.List.{List, [], _∷_}
+use mathlib.Core.List.{[], _∷_}
 use lib.Dec.{T, ltb, ltb→lt, lt→ltb}
 use lib.IntN.{ℤ, pos, negsuc, negℤ, natAbs, _*ℤ_}
 use lib.Pow.{pow-mono, shl-lt}
@@ -12,13 +11,9 @@ use Rattle.model.specs.Scales.{headroom}
 use Rattle.model.specs.Machines.{Vector, timesTwoTo}
 use Rattle.model.specs.Demands.{allBelow}
 use Rattle.model.specs.Worked.{sizes}
-use Rattle.model.proofs.Tests.{and-first, and-second, and-both}
+use Rattle.model.proofs.Tests.{Alike, and-first, and-second, and-both}
 
 -- ---- the worked cases: what is computed of each is what it is
-abbrev Alike : List (Bool × Bool) → Type 0
-Alike [] = Unit {0}
-Alike ((found, is) ∷ more) = (found ≡ is) × Alike more
-
 pub worked : Alike sizes
 unfolding headroom
 worked = (refl, (refl, (refl, (refl, (refl, (refl, (refl, (refl, (refl, (refl, (refl, (refl, (refl, (refl, (refl, (refl, tt))))))))))))))))

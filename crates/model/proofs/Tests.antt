@@ -5,7 +5,7 @@ use native.Mathlib.Omega.{arith}
 use mathlib.Core.Path.{_≡_, refl, subst}
 use mathlib.Core.Logic.{_⊎_, inl, inr}
 use mathlib.Core.Bool.{Bool, _&&_}
-use mathlib.Core.List.{[], _∷_}
+use mathlib.Core.List.{List, [], _∷_}
 use lib.Dec.{T, leb, eqb, leb→le, le→leb, eqb-refl}
 use Rattle.model.specs.declared.Header.{Header}
 use Rattle.model.specs.declared.Headroom.{Headroom}
@@ -16,6 +16,16 @@ use Rattle.rows.specs.Fields.{ranged, within, allInRange}
 pub use Rattle.rows.proofs.Tests.{and-first, and-second, and-both, or-cases, or-first, or-second, by-test, cond-cases, cond-true, cond-false}
 use Rattle.model.specs.Scales.{headroomNumbers, headerInRange}
 use Rattle.model.specs.Files.{isCiphertext, isConstant, isEncoded, isUsable}
+use Rattle.model.specs.Worked.{ciphertextLines}
+
+-- ---- worked cases: what is computed of each is what it is
+abbrev pub Alike : List (Bool × Bool) → Type 0
+Alike [] = Unit {0}
+Alike ((found, is) ∷ more) = (found ≡ is) × Alike more
+
+-- which words are those of ciphertext lines
+pub lines-tested : Alike ciphertextLines
+lines-tested = (refl, (refl, (refl, (refl, (refl, (refl, (refl, (refl, (refl, (refl, (refl, tt)))))))))))
 
 -- ---- equal numbers
 pub eq-passes : (m n : ℕ) → m ≡ n → T (eqb m n)

@@ -2,7 +2,6 @@
 use Prim.Native.Nat.{ℕ, suc, _*_, _<_, _≤_}
 use native.Mathlib.Omega.{arith}
 use mathlib.Core.Path.{_≡_, refl, sym, ap, ap₂, _∙_, subst, subst₂}
-use mathlib.Core.Bool.{_||_}
 use mathlib.Core.List.{List, [], _∷_, _++_}
 use mathlib.Core.Option.{Option, none, some, Option·some-injective}
 use lib.Dec.{T}
@@ -10,18 +9,16 @@ use lib.ListN.{length, getD, getElem?, take}
 use lib.IntN.{ℤ, pos}
 use lib.Signed.{_≤ℤ_}
 use Rattle.ints.specs.Parts.{positive}
-use Rattle.ints.proofs.Linear.{is-positive, sub-is}
+use Rattle.ints.proofs.Linear.{signed, is-positive, sub-is}
 use Rattle.model.specs.declared.Header.{Header}
 use Rattle.model.specs.declared.Line.{Line}
 use Rattle.model.specs.declared.Line.the-variants.{In, Const, Neg, Rot, Add, Mul, Out, Enc, Rs, Ms, Us, Free}
 use Rattle.model.specs.declared.Grammar.the-variants.{Circuit, Schedule}
-use Rattle.model.specs.declared.Kind.{Kind}
-use Rattle.model.specs.declared.Kind.the-variants.{Ciphertext}
 use Rattle.model.specs.declared.Answer.{Answer}
 use Rattle.model.specs.declared.Answer.the-variants.{Done, Level, Refused}
 use Rattle.model.specs.Scales.{withTop, headerInRange, reserve}
 use Rattle.rows.specs.Rows.{placeOf}
-use Rattle.model.specs.Files.{File, wellFormed, kindOf, kindAt, isCiphertext, isEncoded, isUsable, lineFormed, linesFormed}
+use Rattle.model.specs.Files.{File, wellFormed, kindOf, lineFormed, linesFormed}
 use Rattle.model.specs.Machine.{Run, finished, stopped, run}
 use Rattle.model.specs.Rules.{KeepsRules}
 use Rattle.model.specs.declared.Choice.{Choice}
@@ -31,11 +28,10 @@ use Rattle.model.specs.Plan.{bestMachine, productChoice, planLines}
 use Rattle.model.specs.Services.{erase, keptLines, Planned, scheduled, unplanned, plan}
 use Rattle.model.specs.Answers.{leastLevel}
 use Rattle.model.proofs.Statements.Erasing.{origins}
-use Rattle.model.specs.Answers as Refused
 use Rattle.model.specs.declared.Found.{Found}
 use Rattle.model.specs.declared.Found.the-variants as Founds
 use Rattle.model.specs.Answers.{checkMachine, rulesAnswer}
-use Rattle.model.specs.Demands.{Schedulable, reserveAt}
+use Rattle.model.specs.Demands.{Schedulable, isCiphertextLine, HasReserve}
 use Rattle.model.proofs.Statements.Check.{PassedFiles}
 use Rattle.model.proofs.Statements.LeastLevel.{IsLeastLevel}
 use Rattle.model.proofs.Statements.LowestLevel as LowestLevel
@@ -55,16 +51,17 @@ use Rattle.model.proofs.Statements.BestReserve as BestReserve
 use Rattle.model.proofs.Statements.TooFewLevels as TooFewLevels
 use Rattle.model.proofs.Statements.HigherLevels as HigherLevels
 use Rattle.model.proofs.Statements.LeastLevel as LeastLevel
-use Rattle.model.proofs.Tests.{and-first, and-second, and-both, is-ciphertext, HeaderFacts, header-facts, header-passes}
-use Rattle.model.proofs.Lists.{found-at, found-is}
+use Rattle.model.proofs.Tests.{and-first, and-second, and-both, HeaderFacts, header-facts, header-passes}
+use Rattle.model.proofs.Lists.{found-at, found-is, found-below}
 use Rattle.model.proofs.Runs.{stopped-finished, finished-is, first-stop}
 use Rattle.model.proofs.HeadroomLaws.{none-is, given-is}
 use Rattle.model.proofs.Levels.{level-fits, level-least}
 use Rattle.model.proofs.Products.{optimal}
 use Rattle.model.proofs.Reserves.{Bound, AtBest, AllBest, reserve-bound}
 use Rattle.model.proofs.Higher.{fits-higher}
-use Rattle.model.proofs.Formed.{usable-below, well-header, well-lines, well-take}
-use Rattle.model.proofs.Checked.{checked-keeps, keeps-checked, keeps-agrees, verdict, Agrees, foundKind, scaleOf, levelOf}
+use Rattle.model.proofs.Formed.{well-header, well-lines, well-take}
+use Rattle.model.proofs.Checked.{checked-keeps, keeps-checked, verdict}
+use Rattle.model.proofs.FoundNumbers.{ciphertext-line, found-numbers}
 use Rattle.model.proofs.Reason.{only-six, only-rules}
 use Rattle.model.proofs.Broken.{refused-says}
 use Rattle.model.proofs.Compared.{judges}
@@ -72,7 +69,6 @@ use Rattle.model.proofs.KeptLines.{renamed-kind}
 use Rattle.model.proofs.Exactly.{exact}
 use Rattle.model.proofs.Erasure.{erasure}
 use Rattle.model.proofs.ScaleRuns.{is-the-rules}
-use Rattle.model.proofs.Drafts.{Stands}
 use Rattle.model.proofs.Supplies.{Valid, scaleAt, foundFor}
 use Rattle.model.proofs.Lines.{Progress}
 use Rattle.model.proofs.Planned.{Whole, planned}
@@ -149,38 +145,12 @@ pub scale-machine : ScaleMachine.Statement
 scale-machine = is-the-rules
 
 -- ---- the reserve bound
--- the check's finding of a ciphertext has the numbers that keep the rules
-ciphertext-is : (h : Header) (scale level : ℕ → ℕ) (i : ℕ) (k : Kind) (f : Found) → k ≡ Ciphertext → Agrees h scale level i k f → f ≡ Founds.Ciphertext (scale i) (level i)
-ciphertext-is h scale level i k f e a = go f (a .kind ∙ e) (a .scale-is numbers) (a .level-is numbers)
-  where
-    numbers : T (isCiphertext k || isEncoded k)
-    numbers = subst (λ (j : Kind). T (isCiphertext j || isEncoded j)) (sym e) tt
-
-    go : (f : Found) → foundKind f ≡ Ciphertext → scaleOf f ≡ scale i → levelOf f ≡ level i → f ≡ Founds.Ciphertext (scale i) (level i)
-    go Founds.Bare p q r = absurd (let z : _≡_ {A = ℕ} 0 1 = cc in omega arith)
-    go (Founds.Encoded s l) p q r = absurd (let z : _≡_ {A = ℕ} 0 1 = cc in omega arith)
-    go (Founds.Ciphertext s l) p q r = ap₂ Founds.Ciphertext q r
-
-usable-ciphertext : (k : Kind) → k ≡ Ciphertext → T (isUsable k)
-usable-ciphertext k e = subst (λ (j : Kind). T (isUsable j)) (sym e) tt
-
--- at a ciphertext line the check finds the numbers of every way to keep the rules
-found-numbers : (h : Header) (s : List Line) (t : T (wellFormed Schedule h s)) (K : KeepsRules h s) {found : List Found} → run (checkMachine h) s ≡ finished found
-    → (i : ℕ) → kindAt s i ≡ Ciphertext → getElem? found i ≡ some (Founds.Ciphertext (K .scale i) (K .level i))
-found-numbers h s t K {found} e i k =
-    let r = keeps-agrees h s t K in
-    let n = r .2 .named i (usable-ciphertext (kindAt s i) k) in
-    ap (λ (l : List Found). getElem? l i) (same (r .0) (sym e ∙ r .1)) ∙ n .there ∙ ap some (ciphertext-is h (K .scale) (K .level) i (kindAt s i) (n .value) k (n .fits))
-  where
-    same : (other : List Found) → _≡_ {A = Run Found ℕ} (finished found) (finished other) → found ≡ other
-    same other p = cc
-
 pub bound : ReserveBound.Statement
 bound h circuit s t K e =
     record {
       best = B .best;
       runs = ap (run (bestMachine h)) (sym e) ∙ B .runs;
-      lines = λ i u c. at-most i (B .lines i _ (found-numbers h s t K (F .1) i (is-ciphertext (kindAt s i) c)));
+      lines = λ i u c. at-most i (B .lines i _ (found-numbers h s t K (F .1) i u c));
     }
   where
     H : HeaderFacts h
@@ -246,26 +216,27 @@ module _ (circuit : File) (t : T (wellFormed Circuit (circuit .header) (circuit 
     scale-leaves : (r : ℤ) (l : ℕ) → Valid h H r l → reserve h (scaleAt h H r l) l ≡ r
     scale-leaves r l v = sub-is (h .factor * l) (scaleAt h H r l) (omega arith) ∙ ap pos (omega (arith, v .fits)) ∙ sym (v .whole)
 
-    attains : (K : KeepsRules h s) (j : ℕ) → j < length (circuit .lines) → T (isCiphertext (kindOf (getD (circuit .lines) j Free)))
+    attains : (K : KeepsRules h s) (j : ℕ) → j < length (circuit .lines) → T (isCiphertextLine (getD (circuit .lines) j Free))
         → ThePlan.AttainsBest (record { header = circuit .header; lines = s }) K best j
     attains K j u c = by-value (getD best j Bests.Constant) (found-at best j Bests.Constant (omega (arith, P .long)))
       where
         x : Line
         x = getD (circuit .lines) j Free
 
-        there : getElem? (circuit .lines) j ≡ some x
-        there = found-at (circuit .lines) j Free u
-
         i : ℕ
         i = getD (whole .numbers) j 0
 
-        kind : kindOf x ≡ Ciphertext
-        kind = is-ciphertext (kindOf x) c
+        -- what the check finds of the line that was written for it
+        numbers : (b : Best) → getElem? best j ≡ some b → some (foundFor h H b) ≡ some (Founds.Ciphertext (K .scale i) (K .level i))
+        numbers b q =
+            let S = P .entry j x b (found-at (circuit .lines) j Free u) q in
+            let same-kind = ap kindOf (found-is s i Free (S .there)) ∙ S .kind in
+            sym (S .found) ∙ found-numbers h s formed K (P .sound .checks) i (found-below s i (S .there)) (ciphertext-line x (getD s i Free) (sym same-kind) c)
 
         by-value : (b : Best) → getElem? best j ≡ some b → ThePlan.AttainsBest (record { header = circuit .header; lines = s }) K best j
-        by-value Bests.Constant q = absurd (never (sym kind ∙ P .kinds j x Bests.Constant there q (usable-ciphertext (kindOf x) kind)))
+        by-value Bests.Constant q = absurd (never (numbers Bests.Constant q))
           where
-            never : _≡_ {A = Kind} Ciphertext Rattle.model.specs.declared.Kind.the-variants.Constant → ⊥
+            never : some Founds.Bare ≡ some (Founds.Ciphertext (K .scale i) (K .level i)) → ⊥
             never p = let z : _≡_ {A = ℕ} 0 1 = cc in omega arith
         by-value (Bests.Ciphertext p) q =
             record {
@@ -273,21 +244,18 @@ module _ (circuit : File) (t : T (wellFormed Circuit (circuit .header) (circuit 
               choice = p;
               kept = ap (λ (l : List ℕ). getElem? l j) (P .sound .kept-are) ∙ found-at (whole .numbers) j 0 (omega (arith, P .counted));
               best-is = q;
-              reserve-is = ap₂ (reserve h) (sym (numbers .0)) (sym (numbers .1)) ∙ scale-leaves (p .reserve) (p .level) (P .valid j (Bests.Ciphertext p) q);
-              level-is = sym (numbers .1);
+              reserve-is = ap₂ (reserve h) (sym scale-is) (sym level-is) ∙ scale-leaves (p .reserve) (p .level) (P .valid j (Bests.Ciphertext p) q);
+              level-is = sym level-is;
             }
           where
-            S : Stands h s i (foundFor h H (Bests.Ciphertext p)) (kindOf x) j
-            S = P .entry j x (Bests.Ciphertext p) there q
-
-            line-kind : kindAt s i ≡ Ciphertext
-            line-kind = ap kindOf (found-is s i Free (S .there)) ∙ S .kind ∙ kind
-
             both : _≡_ {A = Option Found} (some (Founds.Ciphertext (scaleAt h H (p .reserve) (p .level)) (p .level))) (some (Founds.Ciphertext (K .scale i) (K .level i)))
-            both = sym (S .found) ∙ found-numbers h s formed K (P .sound .checks) i line-kind
+            both = numbers (Bests.Ciphertext p) q
 
-            numbers : (scaleAt h H (p .reserve) (p .level) ≡ K .scale i) × (p .level ≡ K .level i)
-            numbers = (cc both, cc both)
+            scale-is : scaleAt h H (p .reserve) (p .level) ≡ K .scale i
+            scale-is = cc both
+
+            level-is : p .level ≡ K .level i
+            level-is = cc both
 
     right : ThePlan.IsRight circuit (record { header = circuit .header; lines = s })
     right = record {
@@ -320,53 +288,113 @@ pub same-plan : SamePlanStatement.Statement
 same-plan = SamePlan.same-plan
 
 -- ---- the best reserve
+-- line j of a circuit in a schedule that erases to it: a ciphertext line that comes from it
+pub record KeptCiphertext (schedule : List Line) (j : ℕ) : Type 0 where
+  pub line : ℕ
+  pub kept : getElem? (keptLines schedule) j ≡ some line
+  pub below : line < length schedule
+  pub origin : getElem? (origins schedule) line ≡ some j
+  pub is-ciphertext : T (isCiphertextLine (getD schedule line Free))
+
+pub kept-ciphertext : (h : Header) (s : List Line) → T (wellFormed Schedule h s) → (j : ℕ) → j < length (erase s) → T (isCiphertextLine (getD (erase s) j Free)) → KeptCiphertext s j
+kept-ciphertext h s t j below c =
+    let I = erasing h s t .lines j below in
+    let same-kind =
+    ap kindOf (found-is (erase s) j Free (I .written)) ∙ renamed-kind (λ a. getD (origins s) a 0) (getD s (I .line) Free) in
+    record {
+      line = I .line;
+      kept = I .there;
+      below = I .below;
+      origin = I .origin;
+      is-ciphertext = ciphertext-line (getD (erase s) j Free) (getD s (I .line) Free) same-kind c;
+    }
+
+-- its reserve is the same for all scales and levels that keep the rules
+has-reserve : (h : Header) (s : List Line) → T (wellFormed Schedule h s) → (K : KeepsRules h s) {j : ℕ} (k : KeptCiphertext s j)
+    → HasReserve h s j (reserve h (K .scale (k .line)) (K .level (k .line)))
+has-reserve h s t K k = record { legal = K; line = k .line; kept = k .kept; reserve-is = same-reserve }
+  where
+    i : ℕ
+    i = k .line
+
+    same-reserve : (M : KeepsRules h s) → reserve h (M .scale i) (M .level i) ≡ reserve h (K .scale i) (K .level i)
+    same-reserve M = ap₂ (reserve h) scale-is level-is
+      where
+        both : _≡_ {A = Option Found} (some (Founds.Ciphertext (M .scale i) (M .level i))) (some (Founds.Ciphertext (K .scale i) (K .level i)))
+        both =
+            let F = keeps-checked h s t K in
+            sym (found-numbers h s t M (F .1) i (k .below) (k .is-ciphertext)) ∙ found-numbers h s t K (F .1) i (k .below) (k .is-ciphertext)
+
+        scale-is : M .scale i ≡ K .scale i
+        scale-is = cc both
+
+        level-is : M .level i ≡ K .level i
+        level-is = cc both
+
 pub best-reserve : BestReserve.Statement
-best-reserve circuit t schedule e K other j c =
-    subst₂ _≤ℤ_ (at (other .keeps) (I .there)) (ap (λ (p : Choice). p .reserve) same ∙ sym (A .reserve-is) ∙ at K (A .kept)) (L .at-most)
+best-reserve circuit t schedule e j below c =
+    record {
+      best = right .best;
+      choice = A .choice;
+      runs = right .runs;
+      best-is = A .best-is;
+      has = subst (λ (k : Header). HasReserve k (schedule .lines) j (A .choice .reserve)) header-is has;
+      none-more = λ other. record {
+        bits = bits-of other;
+        has = has-reserve h (other .schedule) (other .formed) (other .keeps) (kept-of other);
+        at-most = omega (signed, at-most other);
+      };
+    }
   where
     h : Header
     h = circuit .header
 
-    kind : kindAt (circuit .lines) j ≡ Ciphertext
-    kind = is-ciphertext (kindAt (circuit .lines) j) c
-
-    below : j < length (circuit .lines)
-    below = usable-below (circuit .lines) j (usable-ciphertext (kindAt (circuit .lines) j) kind)
-
     right : ThePlan.IsRight circuit schedule
     right = the-plan circuit t schedule e
 
-    A : ThePlan.AttainsBest schedule K (right .best) j
-    A = right .attains K j below c
+    A : ThePlan.AttainsBest schedule (right .passed .keeps) (right .best) j
+    A = right .attains (right .passed .keeps) j below c
 
-    -- the kept line of the other schedule comes from line j, and is a ciphertext
-    I : ErasingStatement.IsKeptLine (other .schedule) j
-    I = erasing h (other .schedule) (other .formed) .lines j (subst (λ (l : List Line). j < length l) (sym (other .erases)) below)
+    header-is : schedule .header ≡ circuit .header
+    header-is = λ i. right .passed .erases i .header
 
-    line-kind : kindOf (getD (other .schedule) (I .line) Free) ≡ kindAt (circuit .lines) j
-    line-kind =
-        sym (renamed-kind (λ a. getD (origins (other .schedule)) a 0) (getD (other .schedule) (I .line) Free))
-        ∙ ap kindOf (sym (found-is (erase (other .schedule)) j Free (I .written))) ∙ ap (λ (l : List Line). kindAt l j) (other .erases)
+    kept-in : (k : Header) (s : List Line) → T (wellFormed Schedule k s) → erase s ≡ circuit .lines → KeptCiphertext s j
+    kept-in k s f is =
+        kept-ciphertext k s f j (subst (λ (l : List Line). j < length l) (sym is) below) (subst (λ (l : List Line). T (isCiphertextLine (getD l j Free))) (sym is) c)
 
-    B : ReserveBound.Bounded h (circuit .lines) (other .schedule) (other .keeps)
-    B = bound h (circuit .lines) (other .schedule) (other .formed) (other .keeps) (other .erases)
+    has : HasReserve (schedule .header) (schedule .lines) j (A .choice .reserve)
+    has =
+        let P = right .passed in
+        let k = kept-in (schedule .header) (schedule .lines) (P .schedule-formed) (λ i. P .erases i .lines) in
+        let line-is : k .line ≡ A .line = Option·some-injective (k .line) (A .line) (sym (k .kept) ∙ A .kept) in
+        subst (HasReserve (schedule .header) (schedule .lines) j)
+        (ap (λ (i : ℕ). reserve (schedule .header) (P .keeps .scale i) (P .keeps .level i)) line-is ∙ A .reserve-is)
+        (has-reserve (schedule .header) (schedule .lines) (P .schedule-formed) (P .keeps) k)
 
-    L : ReserveBound.AtMostBest h (other .schedule) (other .keeps) (B .best) (I .line)
-    L = B .lines (I .line) (I .below) (subst (λ (k : Kind). T (isCiphertext k)) (sym line-kind) c)
+    kept-of : (other : Schedulable (circuit .header) (circuit .lines)) → KeptCiphertext (other .schedule) j
+    kept-of other = kept-in h (other .schedule) (other .formed) (other .erases)
 
-    same : L .choice ≡ A .choice
-    same = choice (L .best-is) (Option·some-injective (L .from) j (sym (L .comes-from) ∙ I .origin)) (A .best-is) (finished-is (sym (B .runs) ∙ right .runs))
+    bits-of : Schedulable (circuit .header) (circuit .lines) → ℤ
+    bits-of other = reserve h (other .keeps .scale (kept-of other .line)) (other .keeps .level (kept-of other .line))
+
+    at-most : (other : Schedulable (circuit .header) (circuit .lines)) → bits-of other ≤ℤ A .choice .reserve
+    at-most other = subst (λ (p : Choice). bits-of other ≤ℤ p .reserve) same (L .at-most)
       where
-        choice : {best best′ : List Best} {i : ℕ} {p q : Choice} → getElem? best i ≡ some (Bests.Ciphertext p) → i ≡ j
-            → getElem? best′ j ≡ some (Bests.Ciphertext q) → best ≡ best′ → p ≡ q
-        choice {best} {best′} {i} {p} {q} u v w x = is (Option·some-injective (Bests.Ciphertext p) (Bests.Ciphertext q) (sym u ∙ ap₂ getElem? x v ∙ w))
-          where
-            is : Bests.Ciphertext p ≡ Bests.Ciphertext q → p ≡ q
-            is y = cc
+        B : ReserveBound.Bounded h (circuit .lines) (other .schedule) (other .keeps)
+        B = bound h (circuit .lines) (other .schedule) (other .formed) (other .keeps) (other .erases)
 
-    -- the reserve at a kept line
-    at : {k : Header} {s : List Line} (M : KeepsRules k s) {i : ℕ} → getElem? (keptLines s) j ≡ some i → reserve k (M .scale i) (M .level i) ≡ reserveAt M j
-    at {k} {s} M f = ap (λ (i : ℕ). reserve k (M .scale i) (M .level i)) (sym (found-is (keptLines s) j 0 f))
+        L : ReserveBound.AtMostBest h (other .schedule) (other .keeps) (B .best) (kept-of other .line)
+        L = B .lines (kept-of other .line) (kept-of other .below) (kept-of other .is-ciphertext)
+
+        same : L .choice ≡ A .choice
+        same = choice (L .best-is) (Option·some-injective (L .from) j (sym (L .comes-from) ∙ kept-of other .origin)) (A .best-is) (finished-is (sym (B .runs) ∙ right .runs))
+          where
+            choice : {best best′ : List Best} {i : ℕ} {p q : Choice} → getElem? best i ≡ some (Bests.Ciphertext p) → i ≡ j
+                → getElem? best′ j ≡ some (Bests.Ciphertext q) → best ≡ best′ → p ≡ q
+            choice {best} {best′} {i} {p} {q} u v w x = is (Option·some-injective (Bests.Ciphertext p) (Bests.Ciphertext q) (sym u ∙ ap₂ getElem? x v ∙ w))
+              where
+                is : Bests.Ciphertext p ≡ Bests.Ciphertext q → p ≡ q
+                is y = cc
 
 -- ---- too few levels
 -- a circuit with a schedule has a best reserve at every line

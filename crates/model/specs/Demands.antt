@@ -1,23 +1,28 @@
--- The demands' own terms: when there is a schedule at all, the reserve that it leaves, and what "exact" means.
--- Words marked "Demand" are the user's demands', the others document 01's where no other is named.
+-- The demands' own terms: when there is a schedule at all, and what "exact" means; and between them those of document 02, Job 6: the reserve
+-- that a line has, and the greatest. Words marked "Demand" are the user's demands', the others document 01's where no other is named.
 use Prim.Native.Nat.{ℕ, _-_, _/_, _^_, _<_}
 use mathlib.Core.Path.{_≡_}
-use mathlib.Core.Bool.{Bool, true, not, _&&_}
+use mathlib.Core.Bool.{Bool, true, not, _&&_, _||_}
 use mathlib.Core.List.{List, [], _∷_}
 use mathlib.Core.Option.{some}
 use lib.Dec.{T, ltb}
 use lib.ListN.{length, getD, getElem?}
 use lib.IntN.{ℤ, natAbs}
+use lib.Signed.{_≤ℤ_}
 use Rattle.model.specs.declared.Header.{Header}
 use Rattle.model.specs.declared.Headroom.the-variants.{Given}
 use Rattle.model.specs.declared.Line.{Line}
 use Rattle.model.specs.declared.Line.the-variants.{Free}
 use Rattle.model.specs.declared.Grammar.the-variants.{Schedule}
+use Rattle.model.specs.declared.Choice.{Choice}
+use Rattle.model.specs.declared.Best.{Best}
+use Rattle.model.specs.declared.Best.the-variants as Bests
 use Rattle.model.specs.Scales.{modulus, reserve}
-use Rattle.model.specs.Files.{wellFormed, kindOf, isConstant}
+use Rattle.model.specs.Files.{wellFormed, kindOf, isConstant, isEncoded}
 use Rattle.model.specs.Machine.{finished, run}
 use Rattle.model.specs.Rules.{KeepsRules, Bounds}
 use Rattle.model.specs.Machines.{Vector, Handed, Holding, scaled, plainMachine, scaleMachine, timesTwoTo}
+use Rattle.model.specs.Plan.{bestMachine}
 use Rattle.model.specs.Services.{erase, keptLines}
 
 -- Demand 3: "no schedule of whatever length, however cleverly its scale operations are placed, keeps the rules of 2 and erases to that
@@ -30,11 +35,36 @@ pub record Schedulable (h : Header) (circuit : List Line) : Type 0 where
   pub keeps : KeepsRules h schedule
   pub erases : erase schedule ≡ circuit
 
--- The reserve that a schedule leaves at line j of its circuit: that of its j-th kept line.
-abbrev pub reserveAt : {h : Header} {schedule : List Line} → KeepsRules h schedule → ℕ → ℤ
-reserveAt {h} {schedule} keeps j =
-    let line = getD (keptLines schedule) j 0 in
-    reserve h (keeps .scale line) (keeps .level line)
+-- ---- Document 02, Job 6: "for each ciphertext line of a planned circuit the plan's reserve is the greatest that the line has in any legal
+-- schedule of that circuit, at the same header"
+-- "each ciphertext line": neither a constant nor an encoded one, so that `out` is among them, though no line may name it and its kind is
+-- `Nothing`. Of `Free`, which stands in no file, this says true as well.
+abbrev pub isCiphertextLine : Line → Bool
+isCiphertextLine x = not (isConstant (kindOf x) || isEncoded (kindOf x))
+
+-- the reserve "that the line has" in a schedule that keeps the rules: line j of the circuit is the schedule's j-th kept line, and all scales
+-- and levels that keep the rules give it this reserve
+pub record HasReserve (h : Header) (schedule : List Line) (j : ℕ) (bits : ℤ) : Type 0 where
+  pub legal : KeepsRules h schedule
+  pub line : ℕ
+  pub kept : getElem? (keptLines schedule) j ≡ some line
+  pub reserve-is : (keeps : KeepsRules h schedule) → reserve h (keeps .scale line) (keeps .level line) ≡ bits
+
+-- that reserve is no more than this
+pub record HasAtMost (h : Header) (schedule : List Line) (j : ℕ) (most : ℤ) : Type 0 where
+  pub bits : ℤ
+  pub has : HasReserve h schedule j bits
+  pub at-most : bits ≤ℤ most
+
+-- "the greatest" at line j is document 01's best reserve, by its formulas: this schedule has it there, and no "legal schedule of that
+-- circuit", of whatever length, has more
+pub record BestAt (h : Header) (circuit schedule : List Line) (j : ℕ) : Type 0 where
+  pub best : List Best
+  pub choice : Choice
+  pub runs : run (bestMachine h) circuit ≡ finished best
+  pub best-is : getElem? best j ≡ some (Bests.Ciphertext choice)
+  pub has : HasReserve h schedule j (choice .reserve)
+  pub none-more : (other : Schedulable h circuit) → HasAtMost h (other .schedule) j (choice .reserve)
 
 -- Document 02, Job 3: numbers "in absolute value below" this
 abbrev pub allBelow : ℕ → Vector → Bool

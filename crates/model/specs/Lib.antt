@@ -1,5 +1,5 @@
 -- Document 01, with Jobs 1 and 3 of document 02, as definitions, in its order: a file for each section that defines something, with the section on the files in two (Words,
--- Files) and the section on the rules in three (Machine, Rules, Machines), and the demands' own terms in Demands.
+-- Files) and the section on the rules in three (Machine, Rules, Machines); in Demands the demands' own terms and those of Job 6.
 pub mod Scales
 pub mod Words
 pub mod Files

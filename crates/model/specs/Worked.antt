@@ -1,16 +1,19 @@
 -- Small files, as cases of one table: the two machines, to the end and each way in which the scale machine can stop on a well-formed
--- schedule; plans that pin the clauses of "The plan" one by one; constant numbers on both sides of their limit; and the headroom. Document
--- 01's own cases are rows of the services' table, on whole files.
+-- schedule; best reserves and plans that pin the clauses of "The plan" one by one; constant numbers on both sides of their limit; and the
+-- headroom. Document 01's own cases are rows of the services' table, on whole files.
 use Prim.Native.Nat.{ℕ, _+_}
 use mathlib.Core.Path.{refl}
 use mathlib.Core.Bool.{Bool, true, false, _&&_}
-use mathlib.Core.List.{List, [], _∷_, _++_}
+use mathlib.Core.List.{List, [], _∷_, _++_, map}
+use mathlib.Core.Option.{Option, none, some}
 use lib.Dec.{lit≤}
 use lib.ListN.{getD}
 use lib.IntN.{ℤ, pos, negsuc, _-ℤ_}
 use Rattle.rows.specs.Rows.{Judgement, good, bad, judged}
 use Rattle.model.specs.declared.Answer.{Answer}
 use Rattle.model.specs.declared.Answer.the-variants.{Done, Level, Refused}
+use Rattle.model.specs.declared.Best.{Best}
+use Rattle.model.specs.declared.Best.the-variants as Bests
 use Rattle.model.specs.declared.Headroom.{Headroom}
 use Rattle.model.specs.declared.Headroom.the-variants.{None, Given}
 use Rattle.model.specs.declared.Line.{Line}
@@ -21,15 +24,17 @@ use Rattle.model.specs.Files.{File, lineTests, wellFormed}
 use Rattle.model.specs.Machine.{Run, finished, stopped, run}
 use Rattle.model.specs.Machines.{Vector, Handed, Holding, scaled, plainMachine, scaleMachine, timesTwoTo}
 use Rattle.model.specs.Machines.{Reason, levelsDiffer, scalesDiffer, remainder, belowWaterline, aboveModulus}
+use Rattle.model.specs.Plan.{bestMachine}
 use Rattle.model.specs.Services.{Planned, scheduled, unplanned, plan}
 use Rattle.model.specs.Answers.{check, leastLevel}
-use Rattle.model.specs.Demands.{areSmall, belowHalf}
+use Rattle.model.specs.Demands.{areSmall, belowHalf, isCiphertextLine}
 
--- Run the scale machine on the schedule; run the plain machine on the circuit; plan the circuit; judge one line more of the circuit; give
--- the circuit's least top level; check a schedule against the circuit.
+-- Run the scale machine on the schedule; run the plain machine on the circuit; give the best reserve of each line of the circuit; plan the
+-- circuit; judge one line more of the circuit; give the circuit's least top level; check a schedule against the circuit.
 pub data Asked : Type 0 where
   runs : Asked
   runsPlain : Asked
+  weighs : Asked
   plans : Asked
   judges : Line → Asked
   seeks : Asked
@@ -38,6 +43,8 @@ pub data Asked : Type 0 where
 pub data Ends : Type 0 where
   scaleRun : Run Holding Reason → Ends
   plainRun : Run Vector Reason → Ends
+  -- none for a bare constant
+  reserves : Run (Option ℤ) ℕ → Ends
   planning : Planned → Ends
   judging : Judgement Line → Ends
   answering : Answer → Ends
@@ -51,6 +58,7 @@ pub record Case : Type 0 where
 abbrev pub grammarOf : Asked → Grammar
 grammarOf runs = Schedule
 grammarOf runsPlain = Circuit
+grammarOf weighs = Circuit
 grammarOf plans = Circuit
 grammarOf (judges x) = Circuit
 grammarOf seeks = Circuit
@@ -68,9 +76,18 @@ handed =
       constants-long = λ k. refl;
     }
 
+abbrev pub reserveOf : Best → Option ℤ
+reserveOf Bests.Constant = none
+reserveOf (Bests.Ciphertext p) = some (p .reserve)
+
+abbrev pub reservesOf : Run Best ℕ → Run (Option ℤ) ℕ
+reservesOf (finished best) = finished (map reserveOf best)
+reservesOf (stopped i n) = stopped i n
+
 abbrev pub endsOf : Asked → File → Ends
 endsOf runs file = scaleRun (run (scaleMachine handed (file .header)) (file .lines))
 endsOf runsPlain file = plainRun (run (plainMachine handed) (file .lines))
+endsOf weighs file = reserves (reservesOf (run (bestMachine (file .header)) (file .lines)))
 endsOf plans file = planning (plan file)
 endsOf (judges x) file = judging (judged (lineTests Circuit (file .header) (file .lines) x) x)
 endsOf seeks file = answering (leastLevel file)
@@ -149,6 +166,40 @@ machineCases =
     ∷ case (at 1 (In ∷ Us 0 41 ∷ [])) runs (scaleRun (stopped 1 aboveModulus))
     ∷ case (at 1 (In ∷ Ms 0 1 ∷ [])) runs (scaleRun (stopped 1 aboveModulus))
     ∷ []
+
+-- Document 02, Job 6: best reserves, our own, worked by hand with F = 60 and W = 20: at level l scale W leaves 60·l − 20.
+abbrev pub bits : ℕ → Option ℤ
+bits n = some (pos n)
+
+abbrev pub withReserves : ℕ → List Line → List (Option ℤ) → Case
+withReserves l circuit best = case (at l circuit) weighs (reserves (finished best))
+
+abbrev pub reserveCases : List Case
+reserveCases =
+    -- a product at m: 100 + 100 − 120; and at m − 1: x³ has 80 + 100 − 120 = 60, x⁶ 60 − 40 = 20 at level 1, which is more than 60 + 60 − 120
+    withReserves 2 (In ∷ Mul 0 0 ∷ []) (bits 100 ∷ bits 80 ∷ [])
+    ∷ withReserves 2 (In ∷ Mul 0 0 ∷ Mul 1 0 ∷ Mul 2 2 ∷ []) (bits 100 ∷ bits 80 ∷ bits 60 ∷ bits 20 ∷ [])
+    -- m's unequal: x⁴ has 140 + 140 − 180 = 100, m = 2, and the input 160, m = 3: 100 − 20
+    ∷ withReserves 3 (In ∷ Mul 0 0 ∷ Mul 1 1 ∷ Mul 2 0 ∷ []) (bits 160 ∷ bits 140 ∷ bits 100 ∷ bits 80 ∷ [])
+    -- a constant's product, in either place: 40 − 20
+    ∷ withReserves 1 (In ∷ Const 7 ∷ Mul 0 1 ∷ Mul 1 0 ∷ []) (bits 40 ∷ none ∷ bits 20 ∷ bits 20 ∷ [])
+    -- `add`: the smaller, in either place; with a constant the ciphertext's
+    ∷ withReserves 2 (In ∷ Mul 0 0 ∷ Add 0 1 ∷ Add 1 0 ∷ Add 1 1 ∷ []) (bits 100 ∷ bits 80 ∷ bits 80 ∷ bits 80 ∷ bits 80 ∷ [])
+    ∷ withReserves 1 (In ∷ Const 7 ∷ Add 0 1 ∷ Add 1 0 ∷ []) (bits 40 ∷ none ∷ bits 40 ∷ bits 40 ∷ [])
+    -- `neg`, `rot` and `out`: the operand's
+    ∷ withReserves 2 (In ∷ Mul 0 0 ∷ Neg 1 ∷ Rot 1 (pos 3) ∷ Out 1 ∷ []) (bits 100 ∷ bits 80 ∷ bits 80 ∷ bits 80 ∷ bits 80 ∷ [])
+    -- H takes nothing from a reserve, and a best reserve below it is 6
+    ∷ case (underHeader 60 20 1 (Given 20) (In ∷ Mul 0 0 ∷ [])) weighs (reserves (finished (bits 40 ∷ bits 20 ∷ [])))
+    ∷ case (underHeader 60 20 1 (Given 21) (In ∷ Mul 0 0 ∷ [])) weighs (reserves (stopped 1 6))
+    ∷ []
+
+-- which lines are ciphertext lines, for each word
+abbrev pub ciphertextLines : List (Bool × Bool)
+ciphertextLines =
+    (isCiphertextLine In, true) ∷ (isCiphertextLine (Const 7), false) ∷ (isCiphertextLine (Neg 0), true)
+    ∷ (isCiphertextLine (Rot 0 (pos 1)), true) ∷ (isCiphertextLine (Add 0 1), true) ∷ (isCiphertextLine (Mul 0 1), true)
+    ∷ (isCiphertextLine (Out 0), true) ∷ (isCiphertextLine (Enc 0 20 1), false) ∷ (isCiphertextLine (Rs 0 1), true)
+    ∷ (isCiphertextLine (Ms 0 1), true) ∷ (isCiphertextLine (Us 0 1), true) ∷ []
 
 -- Plans, our own, worked by hand: of each line its reserve @ its level; for each operand that is brought (r, l) to (r′, l′), d and q.
 abbrev pub planCases : List Case
@@ -288,4 +339,4 @@ sizes =
     ∷ []
 
 abbrev pub cases : List Case
-cases = machineCases ++ planCases ++ constantCases ++ headroomCases ++ headroomPlans
+cases = machineCases ++ reserveCases ++ planCases ++ constantCases ++ headroomCases ++ headroomPlans

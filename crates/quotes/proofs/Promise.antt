@@ -75,7 +75,7 @@ told circuit (unread n p u) =
       reading = λ e. let high = u .by-reading (λ z. omega (arith, e, z)) in omega (arith, e, high .1);
     }
 told circuit (is-read f o e (too-few p t)) = record { some = λ z. omega arith; reading = λ z. omega arith }
-told circuit (is-read f o e (plans w t)) = tt
+told circuit (is-read f o e (plans w t higher)) = tt
 
 -- ---- beside a reply of planning
 front : (w out : Bytes) (n : ℕ) → n ≡ length w → take n (w ++ drop (length w) out) ≡ w

@@ -18,7 +18,8 @@ use Rattle.services.specs.Outcomes.{Outcome, writes, passes, fitsAt, ref
 use Rattle.services.specs.Calls.{convertedOutcome}
 use Rattle.services.specs.WorkedListings.{listingRows, fullPlaces, allAlike}
 use Rattle.services.specs.WorkedHeadroom.{headroomRows}
-use Rattle.services.specs.Worked.{Finding, comesTo, gives, prints, scaleAndLevel, unscaled, Row, shown, findingOf, findingCode, rowHolds, allHold, table, noRow}
+use Rattle.services.specs.WorkedReserves.{reserveRows}
+use Rattle.services.specs.Worked.{Finding, comesTo, gives, prints, scaleAndLevel, unscaled, leaves, Row, shown, findingOf, findingCode, rowHolds, allHold, table, noRow}
 
 pub tested : T (allHold table)
 unfolding headroom split join sameBytes digitsOf numberOf amountOf decimalIn readFields named linesOf textOf readLine rowsFrom ended readLines readFile fileText
@@ -31,6 +32,10 @@ listings-tested = tt
 pub headroom-tested : T (allHold headroomRows)
 unfolding convertedOutcome headroom split join sameBytes digitsOf numberOf amountOf decimalIn readFields named linesOf textOf readLine rowsFrom ended readLines readFile fileText
 headroom-tested = tt
+
+pub reserves-tested : T (allHold reserveRows)
+unfolding headroom split join sameBytes digitsOf numberOf amountOf decimalIn readFields named linesOf textOf readLine rowsFrom ended readLines readFile fileText
+reserves-tested = tt
 
 pub places-tested : T (allAlike fullPlaces)
 places-tested = tt
@@ -45,7 +50,7 @@ finding-from code =
     getD
     (comesTo (outcome-from code) ∷ comesTo (outcome-from code) ∷ comesTo (outcome-from code) ∷ comesTo (outcome-from code)
     ∷ prints (drop 1 code) ∷ scaleAndLevel (getD code 1 0) (getD code 2 0) ∷ unscaled
-    ∷ gives (getD code 1 0) (getD code 2 0) (getD code 3 0) (getD code 4 0) ∷ [])
+    ∷ gives (getD code 1 0) (getD code 2 0) (getD code 3 0) (getD code 4 0) ∷ leaves (drop 1 code) ∷ [])
     (getD code 0 0) unscaled
 
 finding-back : (f : Finding) → finding-from (findingCode f) ≡ f
@@ -58,6 +63,7 @@ finding-back (prints text) = refl
 finding-back (scaleAndLevel s l) = refl
 finding-back unscaled = refl
 finding-back (gives n f p l) = refl
+finding-back (leaves bits) = refl
 
 holds : (r : Row) → T (rowHolds r) → findingOf (r .question) (shown (r .input)) ≡ r .finding
 holds r t =

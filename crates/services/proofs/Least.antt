@@ -1,33 +1,30 @@
 -- What the least level's service replies is what is promised: the least level at which a schedule exists, or 6 exactly where there is none at 60.
 -- Assumes nothing.
-use Prim.Native.Nat.{ℕ, _≤_}
+use Prim.Native.Nat.{ℕ}
 use native.Mathlib.Omega.{arith}
 use mathlib.Core.Path.{_≡_, refl, sym, ap, _∙_, subst}
 use mathlib.Core.Logic.{_↔_}
 use mathlib.Core.Bool.{Bool, cond}
 use borrow.Author.Tests.{ne-eqb}
-use lib.Dec.{T}
 use Rattle.fields.specs.Pieces.{Bytes}
 use Rattle.model.specs.declared.Answer.{Answer}
 use Rattle.model.specs.declared.Answer.the-variants.{Done, Level, Refused}
-use Rattle.model.specs.declared.Grammar.the-variants.{Circuit, Schedule}
-use Rattle.model.specs.Scales.{withTop}
-use Rattle.model.specs.Files.{File, wellFormed}
+use Rattle.model.specs.Files.{File}
 use Rattle.model.specs.Answers.{leastLevel}
 use Rattle.model.specs.Answers.{answerFile}
 use Rattle.model.proofs.Statements.LeastLevel.{IsLeastLevel}
 use Rattle.model.proofs.Theorems as Model
 use Rattle.model.proofs.Statements.LeastLevel as LeastLevel
 use Rattle.rows.specs.Rows.{Reading, read, refused}
-use Rattle.text.specs.Files.{readText, circuitContext, fileText}
+use Rattle.text.specs.Files.{readText, circuitContext}
 use Rattle.text.proofs.FileLaws.{FileBack, file-read-written}
 use Rattle.services.specs.declared.Reply.{Reply}
 use Rattle.services.specs.Outcomes.{Outcome, fitsAt, refuses, replyOf}
 use Rattle.services.specs.Calls.{answered, onceRead, leastOutcome}
 use Rattle.services.specs.Promises as Promises
-use Rattle.services.specs.Promises.{OnceRead, Plans, Fits, withLevel, Least, NoneFits, LeastComesTo, LeastPromise}
-use Rattle.services.proofs.Planning.{too-few-at, plans-text}
-use Rattle.services.proofs.Texts.{not-both, one-file, is-unread, few-lines, circuit-back, text-inverse}
+use Rattle.services.specs.Promises.{OnceRead, Fits, Least, NoneFits, LeastComesTo, LeastPromise}
+use Rattle.services.proofs.Planning.{too-few-at, formed-at, fits-above, planned-from}
+use Rattle.services.proofs.Texts.{not-both, one-file, is-unread, text-inverse}
 use Rattle.services.proofs.OneOutcome.{one-level}
 
 -- the file that is named: the circuit
@@ -64,37 +61,17 @@ module _ (circuit : Bytes) where
       go (refused n p) e = unread n p e
       go (read f) e = on-file f e (leastLevel f) refl
 
-  -- at another level the circuit has a plan where it fits
-  module _ {f : File} (e : Reads f) (l : ℕ) (low : 1 ≤ l) (high : l ≤ 60) where
-    formed : T (wellFormed Circuit (withTop (f .header) l) (f .lines))
-    formed = Model.formed-at-top (f .header) (f .lines) (back e .formed) l low high
-
-    reads-at : readText circuitContext (fileText Circuit (withLevel f l)) ≡ read (withLevel f l)
-    reads-at = circuit-back (withLevel f l) formed (few-lines circuitContext (back e))
-
-    planned : Fits f l → (written : Bytes) × Plans (fileText Circuit (withLevel f l)) written
-    planned S =
-        let w = Model.too-few-levels (withLevel f l) formed .writes-if S in
-        (fileText Schedule (w .schedule), plans-text (fileText Circuit (withLevel f l)) reads-at (w .writes))
-
-    -- what fits at a level fits at 60
-    higher : Fits f l → Fits f 60
-    higher S = Model.higher-levels (withTop (f .header) l) (f .lines) formed 60 high (omega arith) S
-
   none-at-sixty : {f : File} (p : ℕ) → Reads f → leastLevel f ≡ Refused 6 p → Fits f 60 → ⊥
   none-at-sixty {f} p e q S = right e .too-few 6 p q .no-schedule S
 
   is-least : {f : File} {l : ℕ} → Reads f → IsLeastLevel (f .header) (f .lines) l → Least f l
-  is-least {f} {l} e i =
-      let p = planned e l (i .low) (i .high) (i .fits) in
-      record { low = i .low; high = i .high; fits = i .fits; least = i .least; written = p .0; reads = reads-at e l (i .low) (i .high); plans = p .1 }
+  is-least {f} {l} e i = record { low = i .low; high = i .high; planned = planned-from circuit e l (i .low) (i .high) (i .fits); least = i .least }
 
   none-fits : {f : File} (p : ℕ) → Reads f → leastLevel f ≡ Refused 6 p → NoneFits f p
   none-fits {f} p e q =
-      let formed = Model.formed-at-top (f .header) (f .lines) (back e .formed) 60 (omega arith) (omega arith) in
       record {
-        none-fits = λ k low high S. none-at-sixty p e q (higher e k low high S);
-        at-sixty = too-few-at (LeastLevel.atSixty f) p formed (right e .too-few 6 p q .as-planned);
+        none-fits = λ k low high S. none-at-sixty p e q (fits-above circuit e k low S 60 high (omega arith));
+        at-sixty = too-few-at (LeastLevel.atSixty f) p (formed-at circuit e 60 (omega arith) (omega arith)) (right e .too-few 6 p q .as-planned);
       }
 
   abbrev Comes : Outcome → Type 0
@@ -118,7 +95,7 @@ module _ (circuit : Bytes) where
   exactly r (found k l e q) a f i =
       let is = right e .level l q in (
         λ six. absurd (let same = ap (λ (q : Reply). q .number) a in omega arith),
-        λ n. absurd (n (subst (λ (x : File). Fits x 60) (one-file e i) (higher e l (is .low) (is .high) (is .fits)))),
+        λ n. absurd (n (subst (λ (x : File). Fits x 60) (one-file e i) (fits-above circuit e l (is .low) (is .fits) 60 (is .high) (omega arith)))),
       )
 
 pub least-promise : (circuit : Bytes) (r : Reply) → r ≡ replyOf (leastOutcome circuit) → LeastPromise circuit r

@@ -22,7 +22,7 @@ use Rattle.model.proofs.Tests.{below-or-not}
 use Rattle.text.specs.Files.{readText, circuitContext, scheduleContext, eraseContext, fileText}
 use Rattle.services.specs.Outcomes.{Outcome, writes, fitsAt, refuses}
 use Rattle.services.specs.Promises as Promises
-use Rattle.services.specs.Promises.{OnceRead, unread, is-read, TooFew, PlanComesTo, TextsDifferAt, Verdict, keeps-rules, other-circuit, breaks-rule}
+use Rattle.services.specs.Promises.{OnceRead, unread, is-read, TooFew, Fits, PlanComesTo, TextsDifferAt, Verdict, keeps-rules, other-circuit, breaks-rule}
 use Rattle.services.specs.Promises.{EraseComesTo, Least, LeastComesTo}
 use Rattle.services.proofs.Texts.{not-both, one-file}
 
@@ -45,9 +45,12 @@ too-few-place {h} {lines} {p} {q} s t =
     let same : s .line ≡ t .line = cc in
     s .place-is ∙ ap placeOf same ∙ sym (t .place-is)
 
+least-fits : {file : File} {l : ℕ} → Least file l → Fits file l
+least-fits {file} {l} x = x .planned l (omega arith) (omega (arith, x .low, x .high)) .fits
+
 least-level : {file : File} {l m : ℕ} → Least file l → Least file m → l ≡ m
 least-level {file} {l} {m} x y =
-    neither-below l m (λ u. y .least l (x .low) u (x .fits)) (λ u. x .least m (y .low) u (y .fits))
+    neither-below l m (λ u. y .least l (x .low) u (least-fits x)) (λ u. x .least m (y .low) u (least-fits y))
 
 abbrev pub One : (Outcome → Type 0) → Type 0
 One ComesTo = (o q : Outcome) → ComesTo o → ComesTo q → o ≡ q
@@ -62,11 +65,11 @@ one-read {A} x which Then each o q (is-read f v e t) (is-read k w i s) = each f 
 -- ---- plan
 planned-once : (circuit : Bytes) (f : File) → readText circuitContext circuit ≡ read f → One (PlanComesTo circuit f)
 planned-once circuit f e o q (Promises.too-few p s) (Promises.too-few r t) = ap (refuses 6 1) (too-few-place s t)
-planned-once circuit f e o q (Promises.too-few p s) (Promises.plans w x) =
+planned-once circuit f e o q (Promises.too-few p s) (Promises.plans w x higher) =
     absurd (s .no-schedule (subst (λ (k : File). Schedulable (k .header) (k .lines)) (one-file (x .passed .files .circuit-reads) e) (x .exists)))
-planned-once circuit f e o q (Promises.plans w x) (Promises.too-few p s) =
+planned-once circuit f e o q (Promises.plans w x higher) (Promises.too-few p s) =
     absurd (s .no-schedule (subst (λ (k : File). Schedulable (k .header) (k .lines)) (one-file (x .passed .files .circuit-reads) e) (x .exists)))
-planned-once circuit f e o q (Promises.plans w x) (Promises.plans v y) =
+planned-once circuit f e o q (Promises.plans w x higher) (Promises.plans v y higher′) =
     let is = x .is-plan in
     let other : plan (x .passed .files .circuit-file) ≡ scheduled (y .passed .files .schedule-file) =
     ap plan (one-file (x .passed .files .circuit-reads) (y .passed .files .circuit-reads)) ∙ y .is-plan in
@@ -89,8 +92,8 @@ one-level circuit = one-read (readText circuitContext circuit) 1 LeastComesTo on
   where
     once : (f : File) → readText circuitContext circuit ≡ read f → One (LeastComesTo f)
     once f e o q (Promises.fits-from l x) (Promises.fits-from m y) = ap fitsAt (least-level x y)
-    once f e o q (Promises.fits-from l x) (Promises.too-few r t) = absurd (t .none-fits l (x .low) (x .high) (x .fits))
-    once f e o q (Promises.too-few p s) (Promises.fits-from m y) = absurd (s .none-fits m (y .low) (y .high) (y .fits))
+    once f e o q (Promises.fits-from l x) (Promises.too-few r t) = absurd (t .none-fits l (x .low) (x .high) (least-fits x))
+    once f e o q (Promises.too-few p s) (Promises.fits-from m y) = absurd (s .none-fits m (y .low) (y .high) (least-fits y))
     once f e o q (Promises.too-few p s) (Promises.too-few r t) = ap (refuses 6 1) (too-few-place (s .at-sixty) (t .at-sixty))
 
 -- ---- check

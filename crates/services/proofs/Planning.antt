@@ -1,5 +1,5 @@
 -- What planning replies is what is promised: the plan, or 6 exactly where no schedule exists. Assumes nothing.
-use Prim.Native.Nat.{ℕ}
+use Prim.Native.Nat.{ℕ, _≤_}
 use native.Mathlib.Omega.{arith}
 use mathlib.Core.Path.{_≡_, refl, sym, ap, _∙_, subst}
 use mathlib.Core.Logic.{_↔_}
@@ -8,10 +8,13 @@ use Rattle.fields.specs.Pieces.{Bytes}
 use Rattle.model.specs.declared.Grammar.the-variants.{Circuit, Schedule}
 use Rattle.model.specs.declared.Best.{Best}
 use Rattle.rows.specs.Rows.{placeOf, Reading, read, refused}
+use Rattle.model.specs.Scales.{withTop}
 use Rattle.model.specs.Files.{File, wellFormed}
 use Rattle.model.specs.Machine.{Run, finished, stopped, run}
 use Rattle.model.specs.Plan.{bestMachine, planLines}
 use Rattle.model.specs.Services.{Planned, scheduled, unplanned, plan}
+use Rattle.model.proofs.Tests.{Within, header-facts}
+use Rattle.model.proofs.Formed.{well-header}
 use Rattle.model.proofs.Theorems as Model
 use Rattle.text.specs.Files.{readText, circuitContext, fileText}
 use Rattle.text.proofs.FileLaws.{FileBack, file-read-written}
@@ -20,9 +23,9 @@ use Rattle.services.specs.Outcomes.{Outcome, writes, refuses, Replied}
 use Rattle.services.specs.Calls.{onceRead, planned, planOutcome}
 use Rattle.model.specs.Demands.{Schedulable}
 use Rattle.services.specs.Promises as Promises
-use Rattle.services.specs.Promises.{OnceRead, Passed, IsBest, TooFew, Plans, PlanComesTo, PlanPromise}
+use Rattle.services.specs.Promises.{OnceRead, Passed, IsBest, TooFew, Plans, withLevel, Fits, PlannedAt, PlannedFrom, PlanComesTo, NeverTooFew, PlanPromise}
 use Rattle.services.proofs.Lending.{Writing, text, refusal, by-room, lent-replies}
-use Rattle.services.proofs.Texts.{not-both, one-file, is-unread, few-lines, text-inverse, schedule-back, passed-texts, passed-exact}
+use Rattle.services.proofs.Texts.{not-both, one-file, is-unread, few-lines, text-inverse, schedule-back, circuit-back, passed-texts, passed-exact}
 use Rattle.services.proofs.OneOutcome.{one-plan}
 
 -- ---- what planning comes to
@@ -104,8 +107,8 @@ module _ (circuit : Bytes) where
     plan-is : plan (p .files .circuit-file) ≡ scheduled (p .files .schedule-file)
     plan-is = ap plan (one-file (p .files .circuit-reads) e) ∙ q ∙ ap scheduled same-schedule
 
-    plan-best : IsBest p
-    plan-best other = Model.best-reserve (p .files .circuit-file) (back (p .files .circuit-reads) .formed) (p .files .schedule-file) plan-is (p .keeps) other
+    plan-best : IsBest (p .files)
+    plan-best = Model.best-reserve (p .files .circuit-file) (back (p .files .circuit-reads) .formed) (p .files .schedule-file) plan-is
 
   -- there is a schedule
   plan-exists : {f s : File} → Reads f → plan f ≡ scheduled s → Schedulable (f .header) (f .lines)
@@ -123,13 +126,50 @@ module _ (circuit : Bytes) where
         best = plan-best e q p;
       }
 
+module _ (circuit : Bytes) where
+  -- with another top level in its header
+  module _ {f : File} (e : Reads circuit f) (l : ℕ) (low : 1 ≤ l) (high : l ≤ 60) where
+    pub formed-at : T (wellFormed Circuit (withTop (f .header) l) (f .lines))
+    formed-at = Model.formed-at-top (f .header) (f .lines) (back circuit e .formed) l low high
+
+    reads-at : readText circuitContext (fileText Circuit (withLevel f l)) ≡ read (withLevel f l)
+    reads-at = circuit-back (withLevel f l) formed-at (few-lines circuitContext (back circuit e))
+
+    planned-at : Fits f l → PlannedAt f l
+    planned-at S =
+        let w = Model.too-few-levels (withLevel f l) formed-at .writes-if S in
+        record {
+          fits = S;
+          written = fileText Schedule (w .schedule);
+          reads = reads-at;
+          plans = plans-text (fileText Circuit (withLevel f l)) reads-at (w .writes);
+        }
+
+  -- what fits at one level fits, and is planned, at every higher one
+  pub fits-above : {f : File} → Reads circuit f → (l : ℕ) → 1 ≤ l → Fits f l → (k : ℕ) → l ≤ k → k ≤ 60 → Fits f k
+  fits-above {f} e l low S k above high = Model.higher-levels (withTop (f .header) l) (f .lines) (formed-at e l low (omega arith)) k above high S
+
+  pub planned-from : {f : File} → Reads circuit f → (l : ℕ) → 1 ≤ l → l ≤ 60 → Fits f l → PlannedFrom f l
+  planned-from e l low top S k above high = planned-at e k (omega arith) (omega arith) (fits-above e l low S k (omega arith) (omega arith))
+
+  -- its own level
+  own-level : {f : File} → Reads circuit f → Within 1 60 (f .header .top)
+  own-level {f} e = header-facts (f .header) (well-header Circuit (f .header) (f .lines) (back circuit e .formed)) .top
+
   case-comes-to : {o : Outcome} → PlanCase circuit o → OnceRead (readText circuitContext circuit) 1 (PlanComesTo circuit) o
   case-comes-to (unread n p e) = Promises.unread n p (is-unread circuitContext circuit n p e)
-  case-comes-to (few f p e q) = Promises.is-read f _ e (Promises.too-few p (too-few-at f p (back e .formed) q))
-  case-comes-to (written f s e q) = Promises.is-read f _ e (Promises.plans (fileText Schedule s) (plans-text e q))
+  case-comes-to (few f p e q) = Promises.is-read f _ e (Promises.too-few p (too-few-at f p (back circuit e .formed) q))
+  case-comes-to (written f s e q) = Promises.is-read f _ e (Promises.plans (fileText Schedule s) (plans-text circuit e q)
+      (planned-from e (f .header .top) (own-level e .least) (own-level e .most) (plan-exists circuit e q)))
 
   pub plan-comes-to : OnceRead (readText circuitContext circuit) 1 (PlanComesTo circuit) (planOutcome circuit)
-  plan-comes-to = case-comes-to plan-case
+  plan-comes-to = case-comes-to (plan-case circuit)
+
+-- a text that is to be written is never refused with 6
+written-not-six : (out : Bytes) (r : Reply) (after t : Bytes) → Replied (writes t) out r after → r .number ≡ 6 → ⊥
+written-not-six out r after t a six =
+    by-room out r after ⊥ t (a .reply) (a .bytes)
+    (λ u v w. let same = ap (λ (q : Reply). q .number) v in omega arith) (λ v w. let same = ap (λ (q : Reply). q .number) v in omega arith)
 
 module _ (circuit out : Bytes) (r : Reply) (after : Bytes) where
   abbrev Tells : Type 0
@@ -142,17 +182,33 @@ module _ (circuit out : Bytes) (r : Reply) (after : Bytes) where
       let none = Model.too-few-levels k (back circuit e .formed) .too-few-only (record { place = p; says = q }) in
       (λ six S. none (subst (λ (x : File). Schedulable (x .header) (x .lines)) (one-file i e) S), λ n. ap (λ (q : Reply). q .number) (a .reply))
   exactly (written k s e q) a f i =
-      let S = subst (λ (x : File). Schedulable (x .header) (x .lines)) (one-file e i) (plan-exists circuit e q) in (
-        λ six. absurd (by-room out r after ⊥ (fileText Schedule s) (a .reply) (a .bytes)
-            (λ u v w. let same = ap (λ (q : Reply). q .number) v in omega arith) (λ v w. let same = ap (λ (q : Reply). q .number) v in omega arith)),
-        λ n. absurd (n S),
-      )
+      let S = subst (λ (x : File). Schedulable (x .header) (x .lines)) (one-file e i) (plan-exists circuit e q) in
+      (λ six. absurd (written-not-six out r after (fileText Schedule s) a six), λ n. absurd (n S))
+
+-- a circuit that is planned from this level on
+module _ {f : File} {l : ℕ} (high : l ≤ 60) (from : PlannedFrom f l) where
+  -- with this level in its header
+  planned-there : PlannedFrom (withLevel f l) l
+  planned-there k over up = let p = from k over up in record { fits = p .fits; written = p .written; reads = p .reads; plans = p .plans }
+
+  never-too-few : NeverTooFew (fileText Circuit (withLevel f l))
+  never-too-few call out after r replies six =
+      let p = from l (omega arith) (omega (arith, high)) in
+      let comes-to = Promises.is-read (withLevel f l) (writes (p .written)) (p .reads) (Promises.plans (p .written) (p .plans) planned-there) in
+      written-not-six out r after (p .written) (subst (λ (o : Outcome). Replied o out r after) (sym (call .only (writes (p .written)) comes-to)) (replies .replied)) (omega (arith, six))
 
 pub plan-promise : (circuit out : Bytes) (r : Reply) (after : Bytes) → Replied (planOutcome circuit) out r after → PlanPromise circuit out r after
 plan-promise circuit out r after a =
+    let too-few = exactly circuit out r after (plan-case circuit) a in
     record {
       inverse = text-inverse circuitContext (omega arith) circuit;
       call = record { outcome = planOutcome circuit; comes-to = plan-comes-to circuit; only = λ other c. one-plan circuit other _ c (plan-comes-to circuit) };
       replies = lent-replies out r after (case-writing (plan-case circuit)) a;
-      too-few-iff = exactly circuit out r after (plan-case circuit) a;
+      too-few-iff = too-few;
+      -- 6 there would be 6 here
+      higher = λ f e not-six l above high call out′ after′ r′ replies six.
+          not-six (too-few f e .1 (λ S.
+          let own = own-level circuit e in
+          let from = planned-from circuit e (f .header .top) (own .least) (own .most) S in
+          never-too-few (omega (arith, above, high, own .most)) (λ k over up. from k (omega (arith, above, over)) up) call out′ after′ r′ replies six));
     }

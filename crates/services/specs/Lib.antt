@@ -8,3 +8,4 @@ pub mod Program
 pub mod Worked
 pub mod WorkedListings
 pub mod WorkedHeadroom
+pub mod WorkedReserves

@@ -5,22 +5,22 @@ use mathlib.Core.Path.{_≡_}
 use mathlib.Core.Logic.{_↔_}
 use mathlib.Core.List.{List}
 use lib.Dec.{T}
-use lib.ListN.{length, take, drop}
-use lib.Signed.{_≤ℤ_}
+use lib.ListN.{length, getD, take, drop}
 use Rattle.fields.specs.Pieces.{Bytes, lineFeed, split}
 use Rattle.model.specs.declared.Header.{Header}
 use Rattle.model.specs.declared.Line.{Line}
+use Rattle.model.specs.declared.Line.the-variants.{Free}
 use Rattle.model.specs.declared.Grammar.the-variants.{Circuit, Schedule}
 use Rattle.model.specs.Scales.{withTop}
 use Rattle.rows.specs.Rows.{placeOf, Reading, read, refused}
-use Rattle.model.specs.Files.{File, wellFormed, kindAt, isCiphertext}
+use Rattle.model.specs.Files.{File, wellFormed}
 use Rattle.model.specs.Machine.{stopped, run}
 use Rattle.model.specs.Rules.{KeepsRules}
 use Rattle.model.specs.Machines.{Handed}
 use Rattle.model.specs.Plan.{bestMachine}
 use Rattle.model.specs.Services.{scheduled, plan, eraseFile}
 use Rattle.model.specs.Broken.{FirstBroken}
-use Rattle.model.specs.Demands.{Schedulable, Exact, reserveAt}
+use Rattle.model.specs.Demands.{Schedulable, Exact, isCiphertextLine, BestAt}
 use Rattle.text.specs.declared.Context.{Context}
 use Rattle.text.specs.Files.{readText, fewEnough, circuitContext, scheduleContext, eraseContext, fileText}
 use Rattle.services.specs.declared.Reply.{Reply}
@@ -96,17 +96,17 @@ pub record TooFew (h : Header) (lines : List Line) (place : ℕ) : Type 0 where
   pub before : Schedulable h (take line lines)
   pub with-it : Schedulable h (take (suc line) lines) → ⊥
 
--- "best reserve": no schedule of this circuit leaves more at a ciphertext line. Said against every schedule, so that it rests on the rules
--- and not on the plan's own formulas.
-abbrev pub IsBest : {circuit schedule : Bytes} → Passed circuit schedule → Type 0
-IsBest p =
-    let file = p .files .circuit-file in
-    (other : Schedulable (file .header) (file .lines)) (j : ℕ) → T (isCiphertext (kindAt (file .lines) j))
-    → reserveAt (other .keeps) j ≤ℤ reserveAt (p .keeps) j
+-- Document 02, Job 6: "for each ciphertext line of a planned circuit the plan's reserve is the greatest that the line has in any legal schedule
+-- of that circuit, at the same header", which has its own H
+abbrev pub IsBest : {circuit schedule : Bytes} → BothRead circuit schedule → Type 0
+IsBest files =
+    let file = files .circuit-file in
+    (j : ℕ) → j < length (file .lines) → T (isCiphertextLine (getD (file .lines) j Free))
+    → BestAt (file .header) (file .lines) (files .schedule-file .lines) j
 
 -- ---- plan
--- "What our planner writes is the plan that document 01 defines, and it passes"; there is a schedule, this one; it is exact, and each
--- ciphertext line has the best reserve
+-- "What our planner writes is the plan that document 01 defines, and it passes"; so there is a schedule. It is exact, and each ciphertext
+-- line has the greatest reserve.
 pub record Plans (circuit written : Bytes) : Type 0 where
   pub passed : Passed circuit written
   pub is-plan : plan (passed .files .circuit-file) ≡ scheduled (passed .files .schedule-file)
@@ -114,21 +114,51 @@ pub record Plans (circuit written : Bytes) : Type 0 where
   -- what follows
   pub exists : Schedulable (passed .files .circuit-file .header) (passed .files .circuit-file .lines)
   pub exact : IsExact (passed .files)
-  pub best : IsBest passed
+  pub best : IsBest (passed .files)
+
+-- the circuit with another top level in its header
+abbrev pub withLevel : File → ℕ → File
+withLevel file l = record { header = withTop (file .header) l; lines = file .lines }
+
+abbrev pub Fits : File → ℕ → Type 0
+Fits file l = Schedulable (withTop (file .header) l) (file .lines)
+
+-- with this level in its header the circuit fits, is read and is planned, for whatever buffer holds the plan
+pub record PlannedAt (file : File) (l : ℕ) : Type 0 where
+  pub fits : Fits file l
+  pub written : Bytes
+  pub reads : readText circuitContext (fileText Circuit (withLevel file l)) ≡ read (withLevel file l)
+  pub plans : Plans (fileText Circuit (withLevel file l)) written
+
+-- Document 02, Job 6: "fits at every higher one up to 60", from this level on
+abbrev pub PlannedFrom : File → ℕ → Type 0
+PlannedFrom file l = (k : ℕ) → l ≤ k → k ≤ 60 → PlannedAt file k
 
 -- "planning, once all is read without a refusal, says it exactly when there is none, and otherwise writes the plan of 2 if the buffer
--- holds it"
+-- holds it"; document 02, Job 6: "a circuit which fits at one top level", here the header's, "fits at every higher one up to 60"
 pub data PlanComesTo (circuit : Bytes) (file : File) : Outcome → Type 0 where
   too-few : (place : ℕ) → TooFew (file .header) (file .lines) place → PlanComesTo circuit file (refuses 6 1 place)
-  plans : (written : Bytes) → Plans circuit written → PlanComesTo circuit file (writes written)
+  plans : (written : Bytes) → Plans circuit written → PlannedFrom file (file .header .top) → PlanComesTo circuit file (writes written)
+
+-- what a call comes to
+abbrev pub PlanCall : Bytes → Type 0
+PlanCall circuit = TheOutcome (OnceRead (readText circuitContext circuit) 1 (PlanComesTo circuit))
+
+-- no call with this circuit says 6, whatever is lent
+abbrev pub NeverTooFew : Bytes → Type 0
+NeverTooFew circuit = (call : PlanCall circuit) (out after : Bytes) (r : Reply) → Lent (call .outcome) out r after → r .number ≡ 6 → ⊥
 
 pub record PlanPromise (circuit out : Bytes) (r : Reply) (after : Bytes) : Type 0 where
   pub inverse : IsInverse circuitContext circuit
-  pub call : TheOutcome (OnceRead (readText circuitContext circuit) 1 (PlanComesTo circuit))
+  pub call : PlanCall circuit
   pub replies : Lent (call .outcome) out r after
   -- "exactly when there is none"
   pub too-few-iff : (file : File) → readText circuitContext circuit ≡ read file
       → (r .number ≡ 6) ↔ (Schedulable (file .header) (file .lines) → ⊥)
+  -- what follows for replies, document 02, Job 6: where the circuit is read and this call does not say 6, no call with the same or a higher
+  -- top level up to 60 does
+  pub higher : (file : File) → readText circuitContext circuit ≡ read file → (r .number ≡ 6 → ⊥)
+      → (l : ℕ) → file .header .top ≤ l → l ≤ 60 → NeverTooFew (fileText Circuit (withLevel file l))
 
 -- ---- check
 -- "place of the first circuit line that differs, or one past the shorter file": the first of the texts between line feeds that differs,
@@ -169,23 +199,13 @@ pub record ErasePromise (schedule out : Bytes) (r : Reply) (after : Bytes) : Typ
   pub replies : Lent (call .outcome) out r after
 
 -- ---- least level
--- the circuit with another top level in its header
-abbrev pub withLevel : File → ℕ → File
-withLevel file l = record { header = withTop (file .header) l; lines = file .lines }
-
-abbrev pub Fits : File → ℕ → Type 0
-Fits file l = Schedulable (withTop (file .header) l) (file .lines)
-
 -- "it must fit, and the level below must not"
 pub record Least (file : File) (l : ℕ) : Type 0 where
   pub low : 1 ≤ l
   pub high : l ≤ 60
-  pub fits : Fits file l
+  -- it fits, and "the whole of demand 3 is owed"; document 02, Job 6: at this level and "at every higher one up to 60"
+  pub planned : PlannedFrom file l
   pub least : (k : ℕ) → 1 ≤ k → k < l → Fits file k → ⊥
-  -- "the whole of demand 3 is owed": with this level in its header the circuit is planned, for whatever buffer holds the plan
-  pub written : Bytes
-  pub reads : readText circuitContext (fileText Circuit (withLevel file l)) ≡ read (withLevel file l)
-  pub plans : Plans (fileText Circuit (withLevel file l)) written
 
 -- 6: "(least level: at L = 60)"; then no lower level fits either
 pub record NoneFits (file : File) (place : ℕ) : Type 0 where

@@ -1,21 +1,26 @@
 -- Document 01, "Worked with F = 60, W = 20": its cases, those with * and the others, as rows of one table, on whole files, and then rows
--- of our own. A row is a question, its input and the outcome. A question is a service, the program, or scale and level of a value under the
--- rules.
+-- of our own. A row is a question, its input and the outcome. A question is a service, the program, scale and level of a value under the
+-- rules, or the reserves of a circuit's lines in a schedule.
 use Prim.Native.Nat.{ℕ, zero, suc}
 use Prim.Native.Char.{code}
 use Prim.Native.String as Text
 use Prim.Native.String.{String}
 use mathlib.Core.Bool.{Bool, true, cond, _&&_}
-use mathlib.Core.List.{List, [], _∷_}
+use mathlib.Core.List.{List, [], _∷_, map}
 use mathlib.Core.Option.{Option, none, some}
 use lib.Dec.{eqb}
-use lib.ListN.{getElem?}
+use lib.ListN.{getD, getElem?}
+use lib.IntN.{natAbs}
 use Rattle.fields.specs.Pieces.{Bytes, sameBytes}
+use Rattle.model.specs.declared.Header.{Header}
+use Rattle.model.specs.declared.Line.{Line}
 use Rattle.model.specs.declared.Found.{Found}
 use Rattle.model.specs.declared.Found.the-variants as Founds
 use Rattle.rows.specs.Rows.{placeOf, Reading, read, refused}
+use Rattle.model.specs.Scales.{reserve}
 use Rattle.model.specs.Files.{File}
 use Rattle.model.specs.Machine.{Run, finished, stopped, run}
+use Rattle.model.specs.Services.{keptLines}
 use Rattle.model.specs.Answers.{checkMachine}
 use Rattle.text.specs.Files.{readText, scheduleContext}
 use Rattle.services.specs.declared.Reply.{Reply}
@@ -30,7 +35,7 @@ shown (Text._∷_ c rest) = cond (eqb (code c) 32) 9 (code c) ∷ shown rest
 
 -- Plan this circuit; give its least top level; check this schedule against a circuit; erase this schedule; make a schedule of this
 -- listing; what a call comes to with a buffer of so many bytes; its whole reply; what the program prints of this circuit; scale and level
--- of a value of this schedule under the rules.
+-- of a value of this schedule under the rules; the reserve of each of its kept lines.
 pub data Question : Type 0 where
   plan : Question
   least : Question
@@ -41,6 +46,7 @@ pub data Question : Type 0 where
   replyTo : Question → Question
   program : Question
   scaleOf : ℕ → Question
+  reserves : Question
 
 pub data Finding : Type 0 where
   comesTo : Outcome → Finding
@@ -49,6 +55,8 @@ pub data Finding : Type 0 where
   prints : Bytes → Finding
   scaleAndLevel : ℕ → ℕ → Finding
   unscaled : Finding
+  -- 0 where a kept line is a bare constant, which has no reserve
+  leaves : List ℕ → Finding
 
 pub record Row : Type 0 where
   pub input : String
@@ -70,6 +78,24 @@ abbrev pub onSchedule : ℕ → Reading File → Finding
 onSchedule v (read file) = ruled v (run (checkMachine (file .header)) (file .lines))
 onSchedule v (refused n p) = comesTo (refuses n 2 p)
 
+-- the reserve of a line of which the check finds this; no encoded constant is kept, and what the check passes has no reserve below zero
+abbrev pub reserveFound : Header → Found → ℕ
+reserveFound h Founds.Bare = 0
+reserveFound h (Founds.Encoded s l) = 0
+reserveFound h (Founds.Ciphertext s l) = natAbs (reserve h s l)
+
+-- of each kept line
+abbrev pub reservesFound : Header → List Line → List Found → List ℕ
+reservesFound h lines found = map (λ i. reserveFound h (getD found i Founds.Bare)) (keptLines lines)
+
+abbrev pub reservesOf : Header → List Line → Run Found ℕ → Finding
+reservesOf h lines (finished found) = leaves (reservesFound h lines found)
+reservesOf h lines (stopped i n) = comesTo (refuses n 2 (placeOf i))
+
+abbrev pub onLines : Reading File → Finding
+onLines (read file) = reservesOf (file .header) (file .lines) (run (checkMachine (file .header)) (file .lines))
+onLines (refused n p) = comesTo (refuses n 2 p)
+
 -- a finding that is an outcome, otherwise told
 abbrev pub onOutcome : (Outcome → Finding) → Finding → Finding
 onOutcome f (comesTo outcome) = f outcome
@@ -77,6 +103,7 @@ onOutcome f (gives n file place l) = gives n file place l
 onOutcome f (prints text) = prints text
 onOutcome f (scaleAndLevel s l) = scaleAndLevel s l
 onOutcome f unscaled = unscaled
+onOutcome f (leaves bits) = leaves bits
 
 abbrev pub givenBy : Reply → Finding
 givenBy r = gives (r .number) (r .file) (r .place) (r .length)
@@ -91,6 +118,7 @@ findingOf (withRoom room question) input = onOutcome (λ o. comesTo (lent room o
 findingOf (replyTo question) input = onOutcome (λ o. givenBy (replyOf o)) (findingOf question input)
 findingOf program input = prints (programText input)
 findingOf (scaleOf v) input = onSchedule v (readText scheduleContext input)
+findingOf reserves input = onLines (readText scheduleContext input)
 
 -- A finding as a list of numbers, so that two can be compared.
 abbrev pub findingCode : Finding → List ℕ
@@ -102,6 +130,7 @@ findingCode (prints text) = 4 ∷ text
 findingCode (scaleAndLevel s l) = 5 ∷ s ∷ l ∷ []
 findingCode unscaled = 6 ∷ []
 findingCode (gives n f p l) = 7 ∷ n ∷ f ∷ p ∷ l ∷ []
+findingCode (leaves bits) = 8 ∷ bits
 
 abbrev pub rowHolds : Row → Bool
 rowHolds r = sameBytes (findingCode (findingOf (r .question) (shown (r .input)))) (findingCode (r .finding))

@@ -45,6 +45,8 @@ pub struct Both {
     pub runs: Runs,
     pub halves: Halves,
     pub trips: Trips,
+    pub reserves: Reserves,
+    pub levels: Levels,
 }
 
 /// Exhaustive searches, by what they came to.
@@ -116,11 +118,58 @@ impl Trips {
     }
 }
 
+/// Ciphertext lines by what their reserve was found to be.
+#[derive(Clone, Copy, Default)]
+pub struct Reserves {
+    /// In a plan: the greatest that the exhaustive search finds.
+    pub greatest: u64,
+    /// Those of them whose header has an H, and those that are `out`.
+    pub greatest_with_headroom: u64,
+    pub greatest_of_outputs: u64,
+    /// In a schedule that passes: as in the plan of its circuit, or less.
+    pub same: u64,
+    pub less: u64,
+    /// Such schedules, not lines: the last ciphertext line has the plan's reserve, an earlier one less.
+    pub less_before_last: u64,
+}
+
+impl Reserves {
+    pub fn add(&mut self, other: &Reserves) {
+        self.greatest += other.greatest;
+        self.greatest_with_headroom += other.greatest_with_headroom;
+        self.greatest_of_outputs += other.greatest_of_outputs;
+        self.same += other.same;
+        self.less += other.less;
+        self.less_before_last += other.less_before_last;
+    }
+}
+
+/// Plans of circuits at other levels than their own.
+#[derive(Clone, Copy, Default)]
+pub struct Levels {
+    /// Above the least level: all fit.
+    pub above: u64,
+    /// Circuits that fit at their least level, those that fit at 60 above it, and those that do not fit below it.
+    pub least: u64,
+    pub highest: u64,
+    pub below_least: u64,
+}
+
+impl Levels {
+    pub fn add(&mut self, other: &Levels) {
+        self.above += other.above;
+        self.least += other.least;
+        self.highest += other.highest;
+        self.below_least += other.below_least;
+    }
+}
+
 impl Both {
     /// `show` prints every call and the replies.
     pub fn new(random: Random, show: bool) -> Both {
         let (searches, runs, halves, trips) = (Searches::default(), Runs::default(), Halves::default(), Trips::default());
-        Both { random, show, calls: 0, coverage: Coverage::default(), searches, runs, halves, trips }
+        let (reserves, levels) = (Reserves::default(), Levels::default());
+        Both { random, show, calls: 0, coverage: Coverage::default(), searches, runs, halves, trips, reserves, levels }
     }
 
     pub fn plan(&mut self, circuit: &[u8], room: usize) -> Result<Outcome, String> {

@@ -58,6 +58,14 @@ pub fn standings(schedule: &File) -> (Vec<Option<Standing>>, Option<Refusal>) {
     (schedule.lines().iter().zip(&held).take(count).map(standing).collect(), refusal)
 }
 
+/// The reserve of each line that erasing keeps, none for a bare constant; the refusal where a rule is broken.
+pub fn kept_reserves(schedule: &File) -> Result<Vec<Option<i32>>, Refusal> {
+    let (held, refusal) = standings(schedule);
+    let reserve = |standing: Standing| schedule.header.factor * standing.level - standing.scale;
+    let kept = schedule.lines().iter().zip(held).filter(|(line, _)| line.struck_from().is_none());
+    refusal.map_or_else(|| Ok(kept.map(|(_, standing)| standing.map(reserve)).collect()), Err)
+}
+
 /// Where a line's value stands, by the rules of a line: 7 and 8.
 fn standing_after(header: &Header, line: Line, held: &[Standing]) -> Result<Option<Standing>, u32> {
     let at = |operand: u16| held[usize::from(operand)];
@@ -155,6 +163,17 @@ mod tests {
         assert_eq!(rules("schedule 60 20 1/in/us 0 20/mul 0 1/"), None);
         assert_eq!(rules("schedule 60 20 1/in/us 0 21/mul 0 1/"), Some((9, 4)));
         assert_eq!(rules("schedule 59 60 1/in/"), Some((9, 2)));
+    }
+
+    /// Document 01's listing; then an `out` of a raised value, which leaves the value itself as it is.
+    #[test]
+    fn reserves_of_kept_lines() {
+        let reserves = |shown: &str| kept_reserves(&file(shown, Reading::Schedule));
+        let listing =
+            "schedule 60 20 2/in/const 7/enc 1 20 2/mul 0 2/enc 1 20 2/mul 3 4/us 5 20/rs 6 1/us 5 20/rs 8 1/mul 7 9/out 10/";
+        assert_eq!(reserves(listing), Ok(vec![Some(100), None, Some(80), Some(60), Some(20), Some(20)]));
+        assert_eq!(reserves("schedule 60 20 2/in/us 0 7/out 1/neg 0/"), Ok(vec![Some(100), Some(93), Some(100)]));
+        assert_eq!(reserves("schedule 60 20 2/in/neg 0/rs 0 1/"), Err(Refusal { number: 10, place: 4 }));
     }
 
     #[test]

@@ -1,8 +1,10 @@
 //! The kinds of cases, and what is compared in each.
 
+mod levels;
 mod listings;
 mod machines;
 mod quotes;
+mod reserves;
 mod search;
 
 use crate::both::{Both, Outcome, AMPLE};
@@ -11,6 +13,7 @@ use crate::cases::{damage, files, hand};
 use crate::erase::erasure_of;
 use crate::plan;
 use crate::random::Random;
+use crate::services::Reply;
 use crate::text::{bytes_of, file_of, File, Reading};
 use std::sync::OnceLock;
 
@@ -141,19 +144,28 @@ fn with_files(what: &str, circuit: &[u8], schedule: &[u8]) -> String {
     format!("{what}\n  circuit:  {}\n  schedule: {}", circuit.escape_ascii(), schedule.escape_ascii())
 }
 
-fn circuit(random: &mut Random, both: &mut Both) -> Result<(), String> {
-    let circuit = bytes_of(&files::circuit(random), Reading::Circuit);
-    services_of_circuit(&circuit, both)
+/// The circuit at another top level, with its H.
+fn at_level(circuit: &File, top_level: i32) -> File {
+    let mut moved = circuit.clone();
+    moved.header.top_level = top_level;
+    moved
 }
 
-/// Plan, quote and least level of a circuit; where it has a plan, also the way through check and back by erase.
-fn services_of_circuit(circuit: &[u8], both: &mut Both) -> Result<(), String> {
+fn circuit(random: &mut Random, both: &mut Both) -> Result<(), String> {
+    let circuit = files::circuit(random);
+    let [planned, least] = services_of_circuit(&bytes_of(&circuit, Reading::Circuit), both)?;
+    levels::around(random, &circuit, planned, least, both)
+}
+
+/// Plan, quote and least level of a circuit; where it has a plan, also the way through check and back by erase. Gives the replies of plan and least
+/// level.
+fn services_of_circuit(circuit: &[u8], both: &mut Both) -> Result<[Reply; 2], String> {
     let planned = quotes::plan_and_quote(circuit, both)?;
-    both.least_level(circuit)?;
+    let least = both.least_level(circuit)?.reply;
     if planned.reply.number == 0 {
         round_trip(circuit, &planned, both)?;
     }
-    Ok(())
+    Ok([planned.reply, least])
 }
 
 fn round_trip(circuit: &[u8], planned: &Outcome, both: &mut Both) -> Result<(), String> {
@@ -169,12 +181,17 @@ fn schedule(random: &mut Random, both: &mut Both) -> Result<(), String> {
     services_of_schedule(random, &schedule, both)
 }
 
-/// Erases a schedule and turns it into a listing; checks it against its own circuit, and against another one.
+/// Erases a schedule and turns it into a listing; checks it against its own circuit, puts it beside that circuit's plan where it passes, and checks it
+/// against another one.
 fn services_of_schedule(random: &mut Random, schedule: &File, both: &mut Both) -> Result<(), String> {
     let text = bytes_of(schedule, Reading::Schedule);
     let can_be_erased = both.erase(&text, AMPLE)?.reply.number == 0;
     let erased = erasure_of(schedule);
-    let checked = both.check(&bytes_of(&erased, Reading::Circuit), &text)?.reply;
+    let circuit = bytes_of(&erased, Reading::Circuit);
+    let checked = both.check(&circuit, &text)?.reply;
+    if checked.number == 0 {
+        reserves::beside_plan(&circuit, schedule, both)?;
+    }
     listings::services_of_schedule(&text, Some(checked).filter(|_| can_be_erased), both)?;
     if random.percent(40) {
         let other = hand::other_circuit(random, &erased);
@@ -217,6 +234,9 @@ fn spoiled(random: &mut Random, both: &mut Both) -> Result<(), String> {
     }
     let text = bytes_of(&schedule, Reading::Schedule);
     let checked = both.check(&erased, &text)?.reply;
+    if checked.number == 0 {
+        reserves::beside_plan(&erased, &schedule, both)?;
+    }
     both.erase(&text, AMPLE)?;
     listings::services_of_schedule(&text, Some(checked), both)
 }

@@ -1,4 +1,4 @@
-//! A second version of the scale planner for RNS-CKKS circuits, written from documents 01 and 02 alone, with Jobs 1 to 4 of the latter.
+//! A second version of the scale planner for RNS-CKKS circuits, written from documents 01 and 02 alone, with Jobs 1 to 6 of the latter.
 //!
 //! The services stand in `services`; `text`, `plan`, `price`, `check`, `erase` and `rising` are their parts. `machines` and `search` test what
 //! document 01 says of every schedule. The other modules make cases and compare the archive and the yardstick with this version;

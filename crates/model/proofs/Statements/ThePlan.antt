@@ -1,6 +1,6 @@
 -- What the planner writes passes: it keeps the rules, its fields are in their ranges, its operands are usable earlier lines, it erases to the
--- circuit, and it fits the limit of a schedule wherever the circuit fits that of a circuit. Each kept ciphertext line has the best reserve of its
--- circuit line, at the level chosen for it.
+-- circuit, and it fits the limit of a schedule wherever the circuit fits that of a circuit. Each kept ciphertext line, an `out` too, has the best
+-- reserve of its circuit line, at the level chosen for it.
 use Prim.Native.Nat.{ℕ, _<_, _≤_}
 use mathlib.Core.Path.{_≡_}
 use mathlib.Core.List.{List}
@@ -11,7 +11,7 @@ use Rattle.model.specs.declared.Line.the-variants.{Free}
 use Rattle.model.specs.declared.Answer.the-variants.{Done}
 use Rattle.model.specs.declared.Grammar.the-variants.{Circuit, Schedule}
 use Rattle.model.specs.Scales.{reserve}
-use Rattle.model.specs.Files.{File, wellFormed, kindOf, isCiphertext, limit}
+use Rattle.model.specs.Files.{File, wellFormed, limit}
 use Rattle.model.specs.Machine.{finished, run}
 use Rattle.model.specs.Rules.{KeepsRules}
 use Rattle.model.specs.declared.Choice.{Choice}
@@ -19,6 +19,7 @@ use Rattle.model.specs.declared.Best.{Best}
 use Rattle.model.specs.declared.Best.the-variants as Bests
 use Rattle.model.specs.Plan.{bestMachine}
 use Rattle.model.specs.Services.{scheduled, plan, keptLines}
+use Rattle.model.specs.Demands.{isCiphertextLine}
 use Rattle.model.specs.Answers.{check}
 use Rattle.model.proofs.Statements.Check.{PassedFiles}
 
@@ -37,7 +38,7 @@ pub record IsRight (circuit schedule : File) : Type 0 where
   pub few : length (circuit .lines) ≤ limit Circuit → length (schedule .lines) ≤ limit Schedule
   pub best : List Best
   pub runs : run (bestMachine (circuit .header)) (circuit .lines) ≡ finished best
-  pub attains : (keeps : KeepsRules (schedule .header) (schedule .lines)) (j : ℕ) → j < length (circuit .lines) → T (isCiphertext (kindOf (getD (circuit .lines) j Free)))
+  pub attains : (keeps : KeepsRules (schedule .header) (schedule .lines)) (j : ℕ) → j < length (circuit .lines) → T (isCiphertextLine (getD (circuit .lines) j Free))
       → AttainsBest schedule keeps best j
 
 abbrev pub Statement : Type 0

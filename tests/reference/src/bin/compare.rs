@@ -1,7 +1,7 @@
 //! Compares the archive and the yardstick with the reference on seeded random cases, and fails where too little was tried. `--case K` runs one
 //! case again and shows it.
 
-use reference::both::{Both, Halves, Runs, Searches, Trips};
+use reference::both::{Both, Halves, Levels, Reserves, Runs, Searches, Trips};
 use reference::coverage::{Asked, Coverage};
 use reference::kinds::{run, Kind, KINDS};
 use reference::random::Random;
@@ -41,7 +41,8 @@ fn asked_of(kind: Kind) -> (&'static [usize], u64) {
     }
 }
 
-/// The searches of each answer, with an H too, the runs of each end, the lines beside half their modulus and the trips from each dialect.
+/// The searches of each answer, with an H too, the runs of each end, the lines beside half their modulus, the trips from each dialect, the lines by
+/// their reserve and the plans at other levels.
 const ASKED_SHARP: u64 = 1000;
 
 struct Options {
@@ -75,6 +76,8 @@ struct Count {
     runs: Runs,
     halves: Halves,
     trips: Trips,
+    reserves: Reserves,
+    levels: Levels,
 }
 
 impl Count {
@@ -86,6 +89,8 @@ impl Count {
         self.runs.add(&other.runs);
         self.halves.add(&other.halves);
         self.trips.add(&other.trips);
+        self.reserves.add(&other.reserves);
+        self.levels.add(&other.levels);
     }
 }
 
@@ -117,8 +122,8 @@ fn run_case(seed: u64, case: u64, show: bool) -> (Result<(), String>, Count) {
     // Guard bytes have a generator of their own: they do not move the case.
     let mut both = Both::new(Random::new(!seed, case), show);
     let result = run(case, &mut random, &mut both);
-    let Both { calls, coverage, searches, runs, halves, trips, .. } = both;
-    (result, Count { cases: 1, calls, coverage, searches, runs, halves, trips })
+    let Both { calls, coverage, searches, runs, halves, trips, reserves, levels, .. } = both;
+    (result, Count { cases: 1, calls, coverage, searches, runs, halves, trips, reserves, levels })
 }
 
 fn run_one(seed: u64, case: u64) -> ExitCode {
@@ -214,7 +219,7 @@ fn print_kind(kind: Kind, count: &Count) -> bool {
     !asked.iter().any(|&number| is_short(number))
 }
 
-/// Prints the searches, the runs and the trips, and says whether there are enough of each.
+/// Prints the searches, the runs, the trips, the reserves and the levels, and says whether there are enough of each.
 fn print_sharp(all: &Count) -> bool {
     let Searches { exists, none, gave_up, exists_with_headroom, none_with_headroom } = all.searches;
     println!("exhaustive searches: {exists} found a schedule, {none} found that there is none, {gave_up} gave up");
@@ -229,7 +234,22 @@ fn print_sharp(all: &Count) -> bool {
     let searched = [exists, none, exists_with_headroom, none_with_headroom];
     let others = [to_the_end, stopped, below, greatest, reached, of_listing, of_schedule];
     let is_decided = gave_up * MOST_GIVEN_UP <= exists + none + gave_up;
-    is_decided && searched.iter().chain(&others).all(|&count| count >= ASKED_SHARP)
+    let best = print_best(all);
+    is_decided && searched.iter().chain(&others).chain(&best).all(|&count| count >= ASKED_SHARP)
+}
+
+/// Prints the lines by their reserve and the plans at other levels, and gives the counts.
+fn print_best(all: &Count) -> Vec<u64> {
+    let Reserves { greatest, greatest_with_headroom, greatest_of_outputs, same, less, less_before_last } = all.reserves;
+    println!("ciphertext lines of plans: {greatest} have the greatest reserve that the exhaustive search finds");
+    println!("  of these {greatest_with_headroom} with H, {greatest_of_outputs} are out");
+    println!("ciphertext lines of schedules that pass: {same} have the reserve of the plan, {less} have less, none has more");
+    println!("  {less_before_last} schedules have the reserve of the plan at the last one and less before");
+    let Levels { above, least, highest, below_least } = all.levels;
+    println!("other levels: {above} plans above a circuit's least level fit");
+    println!("  {least} circuits fit at their least level, {highest} also at 60, {below_least} not at the level below");
+    let of_reserves = [greatest, greatest_with_headroom, greatest_of_outputs, same, less, less_before_last];
+    [&of_reserves[..], &[above, least, highest, below_least]].concat()
 }
 
 /// Prints what was tried, and fails where it is too little.
@@ -243,7 +263,7 @@ fn print_counts(counts: &Counts) -> ExitCode {
     enough &= print_sharp(&all);
     enough &= all.coverage.print(&ASKED);
     if !enough {
-        println!("compare: no difference, but too little was tried: see the counts marked !, the searches, the runs, the lines with H and the trips");
+        println!("compare: no difference, but too little was tried: see the counts marked !, the searches, the runs, the lines with H, the trips, the reserves and the levels");
         return ExitCode::FAILURE;
     }
     println!("compare: {} cases, {} calls, no difference", all.cases, all.calls);

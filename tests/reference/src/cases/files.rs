@@ -3,7 +3,7 @@
 use crate::plan;
 use crate::random::Random;
 use crate::rising;
-use crate::text::{File, Header, Line, CIRCUIT_LINES, SCHEDULE_LINES};
+use crate::text::{File, Header, Line, ValueKind, CIRCUIT_LINES, SCHEDULE_LINES};
 
 /// What a random file leans to. Shares are in percent.
 struct Leaning {
@@ -128,6 +128,18 @@ pub fn tiny_circuit(random: &mut Random, most_lines: usize, most_levels: i32) ->
     let leaning = Leaning { products: random.pick(&[40, 60, 80]), inputs: 12, ..leaning(random, 0) };
     let size = random.below(most_lines + 1);
     Maker::new(random, leaning, header, false).make(size)
+}
+
+/// Adds at most so many outputs, of any ciphertext lines.
+pub fn add_outputs(random: &mut Random, circuit: &mut File, most: usize) {
+    let is_ciphertext = |&n: &u16| circuit.lines()[usize::from(n)].kind() == ValueKind::Ciphertext;
+    let ciphertexts: Vec<u16> = (0..circuit.lines().len() as u16).filter(is_ciphertext).collect();
+    if ciphertexts.is_empty() {
+        return;
+    }
+    for _ in 0..random.below(most + 1) {
+        circuit.push(Line::Out { a: random.pick(&ciphertexts) });
+    }
 }
 
 /// A schedule of the form; whether it keeps the rules is left to chance.

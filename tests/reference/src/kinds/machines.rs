@@ -7,7 +7,7 @@ use crate::cases::{files, hand};
 use crate::machines::{bounded_lines, first_wrong_line, plain_machine, scale_machine, Bounded, Handed, Vector};
 use crate::plan;
 use crate::random::Random;
-use crate::text::{bytes_of, File, Line, Reading, ValueKind};
+use crate::text::{bytes_of, File, Line, Reading};
 use std::cmp::Ordering;
 use std::collections::HashMap;
 
@@ -93,20 +93,9 @@ fn circuit_for_machines(random: &mut Random) -> File {
         files::set_headroom_near_best(random, &mut circuit);
     }
     if circuit.header.headroom.is_some() {
-        add_outputs(random, &mut circuit);
+        files::add_outputs(random, &mut circuit, 5);
     }
     circuit
-}
-
-fn add_outputs(random: &mut Random, circuit: &mut File) {
-    let is_ciphertext = |&n: &u16| circuit.lines()[usize::from(n)].kind() == ValueKind::Ciphertext;
-    let ciphertexts: Vec<u16> = (0..circuit.lines().len() as u16).filter(is_ciphertext).collect();
-    if ciphertexts.is_empty() {
-        return;
-    }
-    for _ in 0..random.below(6) {
-        circuit.push(Line::Out { a: random.pick(&ciphertexts) });
-    }
 }
 
 /// Counts lines that hold numbers within half their modulus; gives the first that breaks the promise.
