@@ -4,7 +4,7 @@ use native.Mathlib.Omega.{arith}
 use mathlib.Core.Path.{_≡_, refl, sym, ap, ap₂, _∙_, subst}
 use mathlib.Core.Bool.{true, not, _||_}
 use mathlib.Core.List.{List}
-use mathlib.Core.Option.{some}
+use mathlib.Core.Option.{Option, some}
 use lib.Dec.{T}
 use lib.ListN.{length, getD, getElem?, take}
 use lib.Seq.{getD-take, length-take-le}
@@ -39,6 +39,9 @@ ciphertext-is : (f : Found) {s l : ℕ} → foundKind f ≡ Ciphertext → scale
 ciphertext-is Founds.Bare p q r = absurd (let z : _≡_ {A = ℕ} 0 1 = cc in omega arith)
 ciphertext-is (Founds.Encoded s l) p q r = absurd (let z : _≡_ {A = ℕ} 0 1 = cc in omega arith)
 ciphertext-is (Founds.Ciphertext s l) p q r = ap₂ Founds.Ciphertext q r
+
+pub same-numbers : {s l s′ l′ : ℕ} → _≡_ {A = Option Found} (some (Founds.Ciphertext s l)) (some (Founds.Ciphertext s′ l′)) → (s ≡ s′) × (l ≡ l′)
+same-numbers e = (cc e, cc e)
 
 module _ (h : Header) (s : List Line) (t : T (wellFormed Schedule h s)) (K : KeepsRules h s) {found : List Found} (e : run (checkMachine h) s ≡ finished found) where
   -- the numbers at value i

@@ -3,7 +3,7 @@ use Prim.Native.Nat.{ℕ, suc, _*_, _<_, _≤_}
 use native.Mathlib.Omega.{arith}
 use mathlib.Core.Path.{_≡_, refl, sym, ap, ap₂, _∙_, subst, subst₂}
 use mathlib.Core.List.{List, [], _∷_, _++_}
-use mathlib.Core.Option.{Option, none, some, Option·some-injective}
+use mathlib.Core.Option.{none, some, Option·some-injective}
 use lib.Dec.{T}
 use lib.ListN.{length, getD, getElem?, take}
 use lib.IntN.{ℤ, pos}
@@ -61,7 +61,7 @@ use Rattle.model.proofs.Reserves.{Bound, AtBest, AllBest, reserve-bound
 use Rattle.model.proofs.Higher.{fits-higher}
 use Rattle.model.proofs.Formed.{well-header, well-lines, well-take}
 use Rattle.model.proofs.Checked.{checked-keeps, keeps-checked, verdict}
-use Rattle.model.proofs.FoundNumbers.{ciphertext-line, found-numbers}
+use Rattle.model.proofs.FoundNumbers.{ciphertext-line, same-numbers, found-numbers}
 use Rattle.model.proofs.Reason.{only-six, only-rules}
 use Rattle.model.proofs.Broken.{refused-says}
 use Rattle.model.proofs.Compared.{judges}
@@ -244,18 +244,12 @@ module _ (circuit : File) (t : T (wellFormed Circuit (circuit .header) (circuit 
               choice = p;
               kept = ap (λ (l : List ℕ). getElem? l j) (P .sound .kept-are) ∙ found-at (whole .numbers) j 0 (omega (arith, P .counted));
               best-is = q;
-              reserve-is = ap₂ (reserve h) (sym scale-is) (sym level-is) ∙ scale-leaves (p .reserve) (p .level) (P .valid j (Bests.Ciphertext p) q);
-              level-is = sym level-is;
+              reserve-is = ap₂ (reserve h) (sym (same .0)) (sym (same .1)) ∙ scale-leaves (p .reserve) (p .level) (P .valid j (Bests.Ciphertext p) q);
+              level-is = sym (same .1);
             }
           where
-            both : _≡_ {A = Option Found} (some (Founds.Ciphertext (scaleAt h H (p .reserve) (p .level)) (p .level))) (some (Founds.Ciphertext (K .scale i) (K .level i)))
-            both = numbers (Bests.Ciphertext p) q
-
-            scale-is : scaleAt h H (p .reserve) (p .level) ≡ K .scale i
-            scale-is = cc both
-
-            level-is : p .level ≡ K .level i
-            level-is = cc both
+            same : (scaleAt h H (p .reserve) (p .level) ≡ K .scale i) × (p .level ≡ K .level i)
+            same = same-numbers (numbers (Bests.Ciphertext p) q)
 
     right : ThePlan.IsRight circuit (record { header = circuit .header; lines = s })
     right = record {
@@ -318,18 +312,10 @@ has-reserve h s t K k = record { legal = K; line = k .line; kept = k .kept; rese
     i = k .line
 
     same-reserve : (M : KeepsRules h s) → reserve h (M .scale i) (M .level i) ≡ reserve h (K .scale i) (K .level i)
-    same-reserve M = ap₂ (reserve h) scale-is level-is
-      where
-        both : _≡_ {A = Option Found} (some (Founds.Ciphertext (M .scale i) (M .level i))) (some (Founds.Ciphertext (K .scale i) (K .level i)))
-        both =
-            let F = keeps-checked h s t K in
-            sym (found-numbers h s t M (F .1) i (k .below) (k .is-ciphertext)) ∙ found-numbers h s t K (F .1) i (k .below) (k .is-ciphertext)
-
-        scale-is : M .scale i ≡ K .scale i
-        scale-is = cc both
-
-        level-is : M .level i ≡ K .level i
-        level-is = cc both
+    same-reserve M =
+        let F = keeps-checked h s t K in
+        let same = same-numbers (sym (found-numbers h s t M (F .1) i (k .below) (k .is-ciphertext)) ∙ found-numbers h s t K (F .1) i (k .below) (k .is-ciphertext)) in
+        ap₂ (reserve h) (same .0) (same .1)
 
 pub best-reserve : BestReserve.Statement
 best-reserve circuit t schedule e j below c =
