@@ -9,7 +9,7 @@ definitions() {
   for file in fields/specs/{Pieces,Numbers}.antt rows/specs/{Fields,Forms,Lines,Rows}.antt ints/specs/Parts.antt \
     model/specs/{Scales,Words,Files,Machine,Rules,Machines,Plan,Services,Broken,Demands}.antt text/specs/Files.antt \
     listings/specs/{Listings,Rules,Broken,Conversion}.antt services/specs/{Outcomes,Promises,Listings}.antt risingwriter/specs/GoingOut.antt \
-    prices/specs/Prices.antt quotes/specs/Quotes.antt; do
+    prices/specs/Prices.antt quotes/specs/Quotes.antt liveness/specs/Live.antt dropping/specs/Dropping.antt; do
     printf '%5d  crates/%s\n' "$(grep -cvE '^[[:space:]]*(--.*|(pub |unfoldable )*use .*)?$' "$file")" "$file"
   done
 }

@@ -1,5 +1,5 @@
-/* Quotes document 01's listing, plans it in a buffer of just the quoted bytes, checks the plan, erases it, asks for the least level and shows
- * two refusals; then takes a listing in the rising-level dialect and gives one. Each reply is tested. */
+/* Quotes document 01's listing, plans it in a buffer of just the quoted bytes, checks the plan, erases it, says when its values may be dropped,
+ * asks for the least level and shows two refusals; then takes a listing in the rising-level dialect and gives one. Each reply is tested. */
 #include "../include/gowashiru.h"
 #include <stdio.h>
 #include <string.h>
@@ -16,6 +16,7 @@ static const char listing[] = "rising\t60\t20\t2\nin\nconst\t7\nenc\t1\t20\t0\nm
 
 static uint8_t plan[GOWASHIRU_ENOUGH_BYTES], erasure[GOWASHIRU_ENOUGH_BYTES];
 static uint8_t schedule[GOWASHIRU_ENOUGH_BYTES], given[GOWASHIRU_ENOUGH_BYTES];
+static uint8_t live[GOWASHIRU_LIVE_BYTES];
 
 /* Says so where a call was refused; the host then does without what it asked for. */
 static int refused(const char *call, struct gowashiru_reply reply) {
@@ -34,6 +35,37 @@ static int show_quote(const uint8_t *text, size_t length, struct gowashiru_quote
     return 0;
 }
 
+/* What a host that runs the plan drops after each line, and how many ciphertexts it then holds. */
+static int show_drops(const uint8_t *text, size_t length) {
+    struct gowashiru_reply peak = gowashiru_live_peak(text, length);
+    struct gowashiru_reply table = gowashiru_live(text, length, live, sizeof live);
+    if (refused("live peak", peak) || refused("live", table))
+        return 1;
+    printf("at most %u ciphertexts are live after a line\n", peak.length);
+    for (unsigned line = 0; line < table.length / GOWASHIRU_LIVE_VALUE_BYTES; line++) {
+        const uint8_t *count = live + line * GOWASHIRU_LIVE_VALUE_BYTES + 2;
+        printf("after line %u: %u live, dropped:", line, count[0] + 256u * count[1]);
+        for (unsigned value = 0; value <= line; value++) {
+            const uint8_t *entry = live + value * GOWASHIRU_LIVE_VALUE_BYTES;
+            if (entry[0] + 256u * entry[1] == line)
+                printf(" %u", value);
+        }
+        printf("\n");
+    }
+    return 0;
+}
+
+/* The same asked about one value and one line, and about a line that the plan lacks. */
+static int ask_about_lines(const uint8_t *text, size_t length) {
+    struct gowashiru_reply early = gowashiru_may_drop(text, length, 5, 7), late = gowashiru_may_drop(text, length, 5, 8);
+    struct gowashiru_reply count = gowashiru_live_after(text, length, 7);
+    if (refused("may drop", early) || refused("may drop", late) || refused("live after", count))
+        return 1;
+    printf("value 5 may be dropped after line 7: %s, after line 8: %s\n", early.length ? "yes" : "no", late.length ? "yes" : "no");
+    printf("live after line 7: %u\n", count.length);
+    return !refused("live after", gowashiru_live_after(text, length, 12));
+}
+
 static int plan_and_check(const uint8_t *text, size_t length) {
     struct gowashiru_quote_reply quote;
     if (show_quote(text, length, &quote))
@@ -49,7 +81,7 @@ static int plan_and_check(const uint8_t *text, size_t length) {
         return 1;
     int same = erased.length == length && memcmp(erasure, text, length) == 0;
     printf("the plan passes and erases to %s\n", same ? "the circuit" : "another circuit");
-    return !same;
+    return !same || show_drops(plan, planned.length) || ask_about_lines(plan, planned.length);
 }
 
 static int show_least_level(const uint8_t *text, size_t length) {

@@ -1,7 +1,7 @@
 /*
  * gowashiru.h: a proved scale planner for RNS-CKKS circuits.
  *
- * Seven calls on bytes. No heap, no global state, reentrant: calls from several threads do not meet. Every input gets one
+ * Eleven calls on bytes. No heap, no global state, reentrant: calls from several threads do not meet. Every input gets one
  * reply and every call ends; what is promised of the replies stands in docs/PROMISES.md and is proved.
  *
  * A circuit, a schedule or a listing in the rising-level dialect is text: one record a line, fields parted by one tab, every line closed
@@ -24,19 +24,25 @@ extern "C" {
 #endif
 
 /* The version of this header and of the command; the pkg-config file has it too. */
-#define GOWASHIRU_VERSION "0.5.2"
+#define GOWASHIRU_VERSION "0.6.0"
 
 /* A buffer of so many bytes is enough for every plan, which is proved, for every erasure, which is a circuit and has at most 4,372,
  * and for every conversion: a schedule has at most 30,485 and a listing at most 30,483. How many bytes a circuit's own plan has,
- * gowashiru_quote says. */
+ * gowashiru_quote says. It is enough for gowashiru_live too, which writes GOWASHIRU_LIVE_VALUE_BYTES for each value and so never more
+ * than GOWASHIRU_LIVE_BYTES. */
 #define GOWASHIRU_ENOUGH_BYTES 131072
+
+/* What gowashiru_live writes for each value, and for the 1,792 values that a schedule can have. */
+#define GOWASHIRU_LIVE_VALUE_BYTES 4
+#define GOWASHIRU_LIVE_BYTES 7168
 
 /* The largest number of a constant; the least is 0. A host that keeps its constants under numbers of its own, say a catalogue's,
  * holds one in a uint32_t. A larger one is refused with 11, and one of more than 11 digits with 1. */
 #define GOWASHIRU_MOST_CONSTANT 4294967295u
 
 /* The stack to give a thread. At most 39,736 bytes were measured on x86-64 (from rising; check 39,672, quote 34,744,
- * erase 32,752, plan 31,080, to rising 21,800, least level 15,784) by tests/host/stack.c, on full files with the longest numbers in them. */
+ * erase 32,752, plan 31,080, live 25,464, live after and live peak 25,448, to rising 21,800, may drop 18,328, least level 15,784) by
+ * tests/host/stack.c, on full files with the longest numbers in them. */
 #define GOWASHIRU_STACK_BYTES 131072
 
 /* What the number of a reply says. The numbers do not change. */
@@ -49,7 +55,9 @@ enum gowashiru_number {
     GOWASHIRU_TOO_MANY_LINES = 3,        /* more lines than allowed: 256 in a circuit, 1,792 in a schedule or a listing; in erase
                                           * and both conversions also the 257th line whose first field is a circuit word; after
                                           * the rules, the listing's line with which its schedule has more than 1,792 */
-    GOWASHIRU_NO_USABLE_LINE = 4,        /* operand names no usable earlier line */
+    GOWASHIRU_NO_USABLE_LINE = 4,        /* operand names no usable earlier line; of gowashiru_may_drop and gowashiru_live_after also
+                                          * a value or line number that the schedule lacks, the caller's: place 0, file 0, after all
+                                          * refusals of the file */
     GOWASHIRU_WRONG_KIND = 5,            /* operand of the wrong kind */
     GOWASHIRU_NUMBER_OUT_OF_RANGE = 11,  /* other number outside its range */
     /* Author of a circuit. */
@@ -71,11 +79,12 @@ enum gowashiru_number {
 
 /*
  * number is one of the above. On success (0) file and place are 0, and length is the number of bytes written (plan, erase,
- * both conversions), the least level (least level) or 0 (check).
+ * both conversions, live), the least level (least level), 1 for yes and 0 for no (may drop), a count of ciphertexts (live after, live
+ * peak) or 0 (check).
  *
  * Otherwise the call is refused: length is 0 and no lent byte has been changed. place is the text line that caused it,
  * counted from 1, and file the file of that line, counted from 1 in the order of the arguments; both are 0 where no line did.
- * A line that is missing has the place one past the last.
+ * A text line that is missing has the place one past the last.
  */
 struct gowashiru_reply {
     uint32_t number, file, place, length;
@@ -133,6 +142,46 @@ struct gowashiru_reply gowashiru_from_rising(const uint8_t *listing, size_t list
 /* Makes a listing in the rising-level dialect of a schedule that keeps the rules, without `ds` lines: writes the listing to out. Refuses
  * with 1 to 5, 7 to 11, 13. */
 struct gowashiru_reply gowashiru_to_rising(const uint8_t *schedule, size_t schedule_len, uint8_t *out, size_t out_len);
+
+/*
+ * When a ciphertext may be dropped. The four calls that follow take one schedule, file 1. It only has to be a schedule that can be read: it
+ * may break the rules, and of its at most 1,792 lines more than 256 may have a circuit's words. Lines are numbered as values, from 0: value
+ * n stands in text line n + 2. The answers serve a host that does the lines of this very schedule in order; "after a line" is when that line
+ * and all before it are done.
+ *
+ * Each value has one entry: the last line that names it, or its own line where no line names it. After a line the value may be dropped
+ * exactly where its entry is at most that line and the line is not before the value's own, which is to say that no later line names it and
+ * the line is not before its own. An entry is never before the value's own line, so "entry <= line" decides alone, and a yes stays a yes
+ * after every later line. Any value may be asked about, a constant, an encoded one or an `out` line too.
+ *
+ * A yes speaks of the schedule's own lines. An `out A` line is often the last that names A: a host copies the ciphertext out when it does
+ * that line, or gives it away as it is where A may be dropped after it. What was given away is not counted here. The value of an `out` line
+ * itself is named by no line. A line with the same operand twice drops it once.
+ *
+ * The live count after a line is the number of ciphertexts up to it, itself among them, that may not be dropped after it: those still
+ * named later. Ciphertexts are the values of in, neg, rot, add, mul, rs, ms and us lines. So a host that takes up each input at its `in`
+ * line and drops each ciphertext as soon as it may holds, while it does a line, those counted after the line before it and the line's own
+ * result: at most one more than the largest count, what it has handed over apart.
+ *
+ * Read the reply's number before its length: a refusal has length 0, as a no and a count of none have.
+ */
+
+/* May this value be dropped after this line? length is 1 for yes and 0 for no. Refuses with 1 to 5, 11; with 4, file 0 and place 0 where
+ * the schedule has no such value or no such line, as a bare header has none. */
+struct gowashiru_reply gowashiru_may_drop(const uint8_t *schedule, size_t schedule_len, uint32_t value, uint32_t line);
+
+/* The live count after this line, as length. Refuses with 1 to 5, 11; with 4, file 0 and place 0 where the schedule has no such line. */
+struct gowashiru_reply gowashiru_live_after(const uint8_t *schedule, size_t schedule_len, uint32_t line);
+
+/* The largest live count over the lines, as length; 0 for a bare header. Refuses with 1 to 5, 11. */
+struct gowashiru_reply gowashiru_live_peak(const uint8_t *schedule, size_t schedule_len);
+
+/* All of it at once, so that a host that drops early reads a schedule once: writes GOWASHIRU_LIVE_VALUE_BYTES for each value in order to
+ * out, its entry and then the live count after its own line, two bytes each, the lowest first. Of value v the entry is
+ * out[4 * v] + 256 * out[4 * v + 1] and the count out[4 * v + 2] + 256 * out[4 * v + 3]; the largest of the counts is gowashiru_live_peak's.
+ * length is four times the number of values, 0 for a bare header. Refuses with 1 to 5, 11, 13; never with 13 where out has
+ * GOWASHIRU_LIVE_BYTES. */
+struct gowashiru_reply gowashiru_live(const uint8_t *schedule, size_t schedule_len, uint8_t *out, size_t out_len);
 
 /*
  * What is left to the caller: each pointer with its length is memory that may be read during the call, and out memory that

@@ -91,6 +91,16 @@ quote_is_refused() { # NUMBER FILE PLACE, after plan
     cmp -s "$room/err" "$room/said" || fail "does not say what plan says: $tried"
 }
 
+# What stands beside a schedule: a line for each value, and the peak.
+try_live() { # SCHEDULE TABLE
+    try 0 "$command" live "$1"
+    says_nothing
+    prints <(grep -v '^peak' "$2")
+    try 0 "$command" live-peak "$1"
+    says_nothing
+    prints_line "$(sed -n 's/^peak\t//p' "$2")"
+}
+
 # ---- Every example
 
 try_circuit() { # NAME
@@ -115,6 +125,7 @@ try_circuit() { # NAME
         prints "$1.quote"
         try_picture "$1.plan"
         goes_out_and_back "$1.plan"
+        try_live "$1.plan" "$1.plan.live"
     fi
     try 0 "$command" least-level "$1.circuit"
     prints_line "$(cut -f 2 "$1.least")"
@@ -150,6 +161,7 @@ try_schedule() { # NAME
     fi
     try 0 "$command" erase "$1.schedule"
     prints "$1.erasure"
+    try_live "$1.schedule" "$1.live"
 }
 
 try_listing() { # NAME
@@ -548,6 +560,123 @@ printf 'schedule\t60\t60\t60\t60\n'"$(lines 256 'const\t4294967295\n')$(lines 15
 goes_out_and_back "$s"
 [ "$(grep -c '^enc	255	2940	10$' "$room/listing")" -eq 1536 ] || fail "the levels are not turned: $tried"
 
+# ---- Live ciphertexts. A schedule is given as a format of printf.
+
+answers() { # ANSWER WORDS...
+    local answer=$1
+    shift
+    try 0 "$command" "$@"
+    says_nothing
+    prints_line "$answer"
+}
+
+# All four refuse a file alike, before a number that it lacks.
+live_says() { # NUMBER PLACE SCHEDULE TEXT...
+    local number=$1 place=$2 asked
+    printf "$3" >"$s"
+    shift 3
+    for asked in "may-drop $s 4294967295 4294967295" "live-after $s 4294967295" "live-peak $s" "live $s"; do
+        refused "$number" "$s" "$place" "$command" $asked
+        says "$@"
+    done
+}
+
+# A value or line that the schedule lacks: no line of the file did it, so none is shown.
+lacks() { # LACKING FILE TEXT WORDS...
+    local lacking=$1 file=$2 text=$3
+    shift 3
+    try 1 "$command" "$@"
+    prints_nothing
+    prints_said "$file: the schedule lacks $lacking (refusal 4)" "  $text"
+}
+
+prints_said() { # LINE...
+    cmp -s "$room/err" <(printf '%s\n' "$@") || fail "says something else: $tried"
+}
+
+h='schedule\t60\t20\t2\n'
+live_says 1 1 '' 'The file is empty' '`schedule F W L`'
+live_says 1 1 'circuit\t60\t20\t2\nin\n' 'This is a circuit, and a schedule is wanted here: `gowashiru plan` makes one'
+live_says 1 1 'rising\t60\t20\t2\nin\n' 'This is a listing, and a schedule is wanted here: `gowashiru from-rising` makes one'
+live_says 1 3 "$h"'in\nds\t0\n' '`ds A` stands in listings in the rising-level dialect alone'
+live_says 1 3 "$h"'in\nneg\t0' 'The last line is not closed'
+live_says 2 1 'schedule\t60\t20\t61\nin\n' 'L = 61'
+live_says 2 1 'schedule\t60\t20\t2\t0\nin\n' 'H = 0' 'the header ends after L'
+live_says 3 1794 "$h$(lines 1793 'in\n')" 'A schedule has at most 1,792 lines after its header'
+live_says 4 2 "$h"'neg\t0\n' 'operand names no usable earlier line' 'A = 0' 'none before it'
+live_says 4 4 "$h"'in\nout\t0\nneg\t1\n' 'A = 1: line 3 is an `out` line'
+live_says 5 4 "$h"'in\nconst\t1\nmul\t0\t1\n' 'B = 1 is a constant'
+live_says 11 3 "$h"'const\t1\nenc\t0\t20\t3\n' 'E = 3'
+
+# A value named twice, constants, one that is never named and an out: before the own line, before the entry, at it and after it.
+printf "$h"'in\nconst\t7\nenc\t1\t20\t2\nmul\t2\t0\nneg\t0\nout\t3\n' >"$s"
+for asked in "0 0 no" "0 3 no" "0 4 yes" "0 5 yes" "1 0 no" "1 1 no" "1 2 yes" "2 2 no" "2 3 yes" "3 2 no" "3 4 no" "3 5 yes" \
+    "4 3 no" "4 4 yes" "4 5 yes" "5 0 no" "5 4 no" "5 5 yes"; do
+    read -r value line answer <<<"$asked"
+    answers "$answer" may-drop "$s" "$value" "$line"
+done
+for asked in "0 1" "1 1" "2 1" "3 2" "4 1" "5 0"; do
+    answers "${asked#* }" live-after "$s" "${asked% *}"
+done
+answers 2 live-peak "$s"
+try 0 "$command" live "$s"
+prints <(printf '0\t4\t1\n1\t2\t1\n2\t3\t1\n3\t5\t2\n4\t4\t1\n5\t5\t0\n')
+answers yes may-drop - 0 4 <"$s"
+answers 2 live-after - 3 <"$s"
+answers 2 live-peak - <"$s"
+answers 2 live-peak <"$s"
+answers no may-drop -- "$s" 0 3
+
+# The last number that the schedule has was tried above; the first that it lacks, and numbers that 16 bits would take for small ones.
+six='It has 6 values, numbered 0 to 5, and its lines have the same numbers: value n stands in line n + 2 of the file.'
+lacks 'value 6' "$s" "$six" may-drop "$s" 6 5
+lacks 'line 6' "$s" "$six" may-drop "$s" 5 6
+lacks 'value 6 and line 7' "$s" "$six" may-drop "$s" 6 7
+lacks 'line 6' "$s" "$six" live-after "$s" 6
+lacks 'value 65536' "$s" "$six" may-drop "$s" 65536 5
+lacks 'line 65541' "$s" "$six" may-drop "$s" 0 65541
+lacks 'line 65536' "$s" "$six" live-after "$s" 65536
+lacks 'value 4294967295' "$s" "$six" may-drop "$s" 4294967295 0
+lacks 'value 4294967295 and line 4294967295' 'standard input' "$six" may-drop - 4294967295 4294967295 <"$s"
+lacks 'line 4294967295' 'standard input' "$six" live-after - 4294967295 <"$s"
+# A header alone, and one value.
+printf "$h" >"$s"
+lacks 'value 0 and line 0' "$s" 'It has a header alone, and so no value and no line to ask about.' may-drop "$s" 0 0
+lacks 'line 0' "$s" 'It has a header alone, and so no value and no line to ask about.' live-after "$s" 0
+answers 0 live-peak "$s"
+try 0 "$command" live "$s"
+prints_nothing
+says_nothing
+printf "$h"'in\n' >"$s"
+answers yes may-drop "$s" 0 0
+answers 0 live-after "$s" 0
+lacks 'line 1' "$s" 'It has 1 value, numbered 0 to 0, and its lines have the same numbers: value n stands in line n + 2 of the file.' live-after "$s" 1
+
+# The rules need not hold, and more than 256 lines may be kept: levels and scales that differ, a scale above the modulus and one below the waterline.
+printf "$h"'in\nus\t0\t3600\nms\t0\t60\nrs\t0\t60\nadd\t1\t2\nmul\t3\t4\n' >"$s"
+refused 9 "$s" 3 "$command" to-rising "$s"
+answers 3 live-peak "$s"
+try 0 "$command" live "$s"
+prints <(printf '0\t3\t1\n1\t4\t2\n2\t4\t3\n3\t5\t3\n4\t5\t2\n5\t5\t0\n')
+# Full schedules: nothing named; as many live as can be, two for each of the last lines; the longest, of constants.
+printf "$h$(lines 1792 'in\n')" >"$s"
+answers 0 live-peak "$s"
+answers yes may-drop "$s" 1791 1791
+answers no may-drop "$s" 1791 1790
+lacks 'line 1792' "$s" 'It has 1792 values, numbered 0 to 1791, and its lines have the same numbers: value n stands in line n + 2 of the file.' live-after "$s" 1792
+{ printf "$h$(lines 1194 'in\n')" && seq 0 2 1192 | awk '{ printf "add\t%d\t%d\n", $1, $1 + 1 }' && printf 'out\t1790\n'; } >"$s"
+answers 1194 live-peak "$s"
+answers 1194 live-after "$s" 1193
+answers 1 live-after "$s" 1790
+answers no may-drop "$s" 1193 1789
+answers yes may-drop "$s" 1193 1790
+try 0 "$command" live "$s"
+[ "$(wc -l <"$room/out")" -eq 1792 ] || fail "not 1,792 lines: $tried"
+[ "$(sed -n '1194p' "$room/out")" = "1193	1790	1194" ] || fail "another line 1194: $tried"
+[ "$(tail -n 1 "$room/out")" = "1791	1791	0" ] || fail "another last line: $tried"
+printf 'schedule\t60\t60\t60\t60\n'"$(lines 1792 'const\t4294967295\n')" >"$s"
+answers 0 live-peak "$s"
+
 # ---- Reading
 
 good=examples/listing.circuit
@@ -586,6 +715,27 @@ done
 refused 3 'standard input' 258 "$command" from-rising < <(printf 'rising\t60\t20\t2\n'; yes in)
 refused 3 'standard input' 258 "$command" to-rising < <(printf 'schedule\t60\t20\t2\n'; yes in)
 refused 3 'standard input' 1794 "$command" from-rising < <(printf 'rising\t60\t20\t2\nin\n'; yes 'ds	0')
+plan=examples/listing.plan
+for service in live-peak live; do
+    try 2 "$command" "$service" <&-
+    says 'standard input: it is closed'
+    refused 3 'standard input' 1794 "$command" "$service" < <(printf 'schedule\t60\t20\t2\n'; yes in)
+    try 2 "$command" "$service" "$room/none"
+    says "$room/none: No such file"
+done
+for asked in "may-drop - 0 0" "live-after - 0" "live-peak -" "live -"; do
+    try 2 "$command" $asked <"$room"
+    says 'standard input: Is a directory'
+    refused 1 'standard input' 1 "$command" $asked </dev/zero
+    refused 1 'standard input' 1 "$command" $asked < <(yes)
+    try 0 "$command" $asked <"$plan"
+done
+try 2 "$command" may-drop "$room/none" 0 0
+says "$room/none: No such file"
+try 2 "$command" live-after - 0 <&-
+says 'standard input: it is closed'
+try 0 "$command" live -- "$plan"
+prints <(grep -v '^peak' "$plan.live")
 try 2 "$command" plan <&-
 says 'standard input: it is closed'
 try 2 "$command" plan /proc/self/mem
@@ -605,6 +755,8 @@ prints examples/listing.plan
 at_terminal "$command plan" circuit "$good"
 at_terminal "$command quote" circuit "$good"
 at_terminal "$command from-rising" listing "$listing.rising"
+at_terminal "$command live" schedule "$plan"
+at_terminal "$command may-drop - 0 3" schedule "$plan"
 
 # ---- Writing
 
@@ -664,6 +816,26 @@ try 2 bash -c "'$command' quote $good >/dev/full"
 says 'standard output: No space left on device'
 try 2 bash -c "'$command' quote $good >&-"
 says 'standard output: it is closed'
+for asked in "may-drop $plan 0 3:yes" "live-after $plan 6:2" "live-peak $plan:2"; do
+    try 0 "$command" ${asked%:*} -o "$room/own"
+    prints_nothing
+    [ "$(cat "$room/own")" = "${asked#*:}" ] || fail "not the answer: $tried"
+done
+try 0 "$command" live -o "$room/own" "$plan"
+prints_nothing
+cmp -s "$room/own" <(grep -v '^peak' "$plan.live") || fail "not the table: $tried"
+for asked in "may-drop $plan 12 3" "live-after $plan 12" "live-peak $good" "live $good"; do
+    try 1 "$command" $asked -o "$room/own"
+    cmp -s "$room/own" <(grep -v '^peak' "$plan.live") || fail "a refusal wrote: $tried"
+done
+for asked in "may-drop $plan 0 3" "live-after $plan 6" "live-peak $plan" "live $plan"; do
+    try 2 bash -c "ulimit -f 0; exec '$command' $asked -o '$room/own' 2>/dev/null"
+    cmp -s "$room/own" <(grep -v '^peak' "$plan.live") || fail "a failed write changed the file: $tried"
+    try 2 bash -c "'$command' $asked >/dev/full"
+    says 'standard output: No space left on device'
+    try 2 bash -c "'$command' $asked >&-"
+    says 'standard output: it is closed'
+done
 try 2 "$command" plan "$good" -o "$room"
 says 'Is a directory'
 try 2 "$command" plan "$good" -o "$room/none/x"
@@ -697,6 +869,38 @@ try 2 "$command" quote "$good" "$good"
 says 'one file too many' 'gowashiru quote --help'
 try 2 "$command" quote -x "$good"
 says 'no such option: -x' 'gowashiru quote --help'
+# A number is wrong before any file is read.
+for number in '' +1 -1 - 01 00 -0 1x x ' 1' '1 ' 1.5 0x1 1e3 4294967296 99999999999 100000000000 18446744073709551616; do
+    try 2 "$command" may-drop "$room/none" "$number" 0
+    prints_nothing
+    says "VALUE is a number from 0 to 4294967295, without sign or leading zeros, and this is none: '$number'" 'gowashiru may-drop --help'
+    try 2 "$command" may-drop "$room/none" 0 "$number"
+    says "LINE is a number from 0 to 4294967295, without sign or leading zeros, and this is none: '$number'"
+    try 2 "$command" live-after -- "$room/none" "$number"
+    says "LINE is a number from 0 to 4294967295, without sign or leading zeros, and this is none: '$number'" 'gowashiru live-after --help'
+done
+for asked in "" "$plan" "$plan 0"; do
+    try 2 "$command" may-drop $asked
+    says 'may-drop needs a file and two numbers, SCHEDULE, VALUE and LINE' 'gowashiru may-drop --help'
+done
+for asked in "" "$plan"; do
+    try 2 "$command" live-after $asked
+    says 'live-after needs a file and a number, SCHEDULE and LINE'
+done
+try 2 "$command" may-drop "$plan" 0 1 2
+says 'one word too many: 2'
+try 2 "$command" live-after "$plan" 0 1
+says 'one word too many: 1'
+try 2 "$command" live-peak "$plan" 0
+says 'one file too many: 0'
+try 2 "$command" live "$plan" "$plan"
+says 'one file too many'
+try 2 "$command" may-drop -x "$plan" 0 1
+says 'no such option: -x' 'gowashiru may-drop --help'
+try 2 "$command" live-after "$plan" -x
+says 'no such option: -x'
+try 2 "$command" live -1
+says 'no such option: -1'
 try 2 "$command" check "$good"
 says 'check needs two files'
 try 2 "$command" check - -
@@ -707,11 +911,11 @@ try 2 "$command" plan -o a -o b "$good"
 says '-o is given twice'
 try 0 "$command" --help
 says_nothing
-for name in plan check erase least-level quote from-rising to-rising picture; do
+for name in plan check erase least-level quote from-rising to-rising picture may-drop live-after live-peak live; do
     grep -q "^  $name " "$room/out" || fail "help leaves out $name"
 done
 grep -q 'H from 1 to 60' "$room/out" || fail "help leaves out H"
-for name in plan check erase least-level quote from-rising to-rising picture; do
+for name in plan check erase least-level quote from-rising to-rising picture may-drop live-after live-peak live; do
     try 0 "$command" "$name" --help
     grep -q "^usage: gowashiru $name " "$room/out" || fail "no usage: $tried"
 done
@@ -741,7 +945,12 @@ try 0 "$room/installed/opt/bin/gowashiru" plan "$good"
 prints examples/listing.plan
 grep -qx "Version: $version" "$room/installed/opt/lib/pkgconfig/gowashiru.pc" || fail "another version for pkg-config"
 grep -q 'headroom H' "$room/installed/opt/share/man/man1/gowashiru.1" || fail "no manual page that has H"
-grep -q '^.B gowashiru quote' "$room/installed/opt/share/man/man1/gowashiru.1" || fail "no manual page that has quote"
+for name in quote may-drop live-after live-peak live; do
+    grep -qx ".B gowashiru $name" "$room/installed/opt/share/man/man1/gowashiru.1" || fail "no manual page that has $name"
+done
+# The table of the manual page is the listing's.
+diff <(sed -n 's/^\(in\|[a-z]* [0-9 ]*\)|\([0-9]* [0-9]* [0-9]*\)$/\2/p' tools/gowashiru.1) <(grep -v '^peak' examples/listing.plan.live | tr '\t' ' ') >/dev/null ||
+    fail "the manual page has another table of live ciphertexts"
 [ -s "$room/installed/opt/share/doc/gowashiru/FORMAT.md" ] || fail "no page on the files"
 sed "s|\.\./include/||" examples/host.c >"$room/host.c"
 sed -i "s|^prefix=|&$room/installed|" "$room/installed/opt/lib/pkgconfig/gowashiru.pc"
@@ -858,6 +1067,6 @@ try 2 env PATH="$room/bin:$bin_without_rt" "$copy/plan.sh" <"$good"
 prints_nothing
 says 'ints is not proved' 'plan cannot be built' 'target/build.log says why'
 
-expected=627
+expected=904
 [ "$count" -eq "$expected" ] || fail "$count cases, not $expected. If it is meant, store the number and say why in the commit."
 echo "command: $count cases as they should be"

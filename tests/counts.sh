@@ -7,7 +7,7 @@ count() {
     printf '%4d %s\n' "$(compgen -G "$1" | wc -l)" "$1"
 }
 counts() {
-    for kind in circuit plan least quote schedule check erasure rising from_rising to_rising; do
+    for kind in circuit plan least quote schedule check erasure rising from_rising to_rising live; do
         count "examples/*.$kind"
     done
     for crate in crates/*/; do

@@ -1,11 +1,12 @@
 #!/usr/bin/env bash
 # Runs every example of docs/FORMAT.md and README.md on the archive and compares every byte. A block marked `circuit`, `schedule` or `rising` is a file, one
-# marked `sh` prints one; `plan`, `check`, `erase`, `least-level`, `quote`, `from-rising` and `to-rising` have what is replied on the last circuit, schedule or
-# listing, a check on the last circuit and schedule; a file that is replied is the last of its kind. `c` is a program and `prints` its output; a block marked `console`
-# is not run. The pages' pictures are drawn anew. The archive is built before.
+# marked `sh` prints one; `plan`, `check`, `erase`, `least-level`, `quote`, `from-rising`, `to-rising`, `live` and `live-peak` have what is replied on the last
+# circuit, schedule or listing, a check on the last circuit and schedule; a file that is replied is the last of its kind. `live-after LINE` and `may-drop VALUE LINE`
+# have the numbers that are asked about behind the mark. `c` is a program and `prints` its output; a block marked `console` is not run. The pages' pictures are drawn
+# anew. The archive is built before.
 set -euo pipefail
 cd "$(dirname "${BASH_SOURCE[0]}")/.."
-replies_stored=77
+replies_stored=92
 folder=target/tests/format
 rm -rf "$folder"
 mkdir -p "$folder"
@@ -41,8 +42,9 @@ take() { # FILE
     *) circuit="$1" ;;
     esac
 }
-least_level() {
-    target/tests/reply least "$1" | sed 's/^level\t//'
+# As the command prints it, the number alone.
+number() { # REPLY WORDS...
+    target/tests/reply "$@" | sed 's/^\(level\|live\|peak\)\t//'
 }
 for block in "$folder"/*; do
     case "${block##*.}" in
@@ -70,8 +72,14 @@ for block in "$folder"/*; do
         same target/tests/reply to-rising "$schedule"
         take "$block"
         ;;
-    least-level) same least_level "$circuit" ;;
+    least-level) same number least "$circuit" ;;
     quote) same target/tests/reply quote "$circuit" ;;
+    live) same target/tests/reply live "$schedule" ;;
+    live-peak) same number live-peak "$schedule" ;;
+    live-after\ * | may-drop\ *)
+        read -ra words <<<"${block##*.}"
+        same number "${words[0]}" "$schedule" "${words[@]:1}"
+        ;;
     c)
         gcc -std=c11 -Wall -Wextra -Werror -O2 -Iinclude -x c -o "$folder/program" "$block" -x none target/staticlib/libgowashiru.a
         "$folder/program" >"$folder/printed" || fail "the program fails"
@@ -90,5 +98,6 @@ done
 for number in $(seq 14); do
     grep -q "^refused	$number	" "$folder"/FORMAT.md:*.{plan,check,erase,least-level,quote,from-rising,to-rising,prints} || fail "no example of refusal $number"
 done
+grep -q "^refused	4	0$" "$folder"/FORMAT.md:*.{live-after,may-drop}\ * || fail "no example of a number that a schedule lacks"
 [ "$count" = "$replies_stored" ] || fail "$count replies, and $replies_stored are stored in tests/format.sh"
 echo "format: $count replies of the pages as they should be, each refusal among them"

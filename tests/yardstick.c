@@ -17,6 +17,10 @@ reply yardstick_least_level(const uint8_t *circuit, size_t circuit_len);
 reply yardstick_from_rising(const uint8_t *listing, size_t listing_len, uint8_t *out, size_t out_len);
 reply yardstick_to_rising(const uint8_t *schedule, size_t schedule_len, uint8_t *out, size_t out_len);
 quote_reply yardstick_quote(const uint8_t *circuit, size_t circuit_len);
+reply yardstick_may_drop(const uint8_t *schedule, size_t schedule_len, uint32_t value, uint32_t line);
+reply yardstick_live_after(const uint8_t *schedule, size_t schedule_len, uint32_t line);
+reply yardstick_live_peak(const uint8_t *schedule, size_t schedule_len);
+reply yardstick_live(const uint8_t *schedule, size_t schedule_len, uint8_t *out, size_t out_len);
 
 enum {
     CIRCUIT_LINES = 256,
@@ -857,4 +861,101 @@ reply yardstick_from_rising(const uint8_t *bytes, size_t bytes_len, uint8_t *out
             numbers[n] = (uint16_t)put_converted(&draft, &listing.header, line, held, numbers);
     }
     return too_many ? refused(3, 1, too_many) : lend(text, draft.at, out, out_len);
+}
+
+/* Live ciphertexts: document 02, Job 7. */
+
+/* Reads a schedule and keeps for each value "the last line that names it", its own where none does. */
+static inline reply read_entries(const uint8_t *bytes, size_t bytes_len, struct file *schedule, uint16_t *entries) {
+    reply read = read_file(bytes, bytes_len, SCHEDULE, 1, schedule);
+    if (read.number)
+        return read;
+    for (uint32_t n = 0; n < schedule->count; n++) {
+        const struct line *line = &schedule->lines[n];
+        entries[n] = (uint16_t)n;
+        if (line->word >= NEG)
+            entries[line->first] = (uint16_t)n;
+        if (line->word == ADD || line->word == MUL)
+            entries[line->second] = (uint16_t)n;
+    }
+    return read;
+}
+
+/* 1 for a ciphertext that this line is the last to name, else 0. */
+static inline uint32_t ends_at(const struct file *schedule, const uint16_t *entries, uint32_t value, uint32_t n) {
+    return entries[value] == n && schedule->lines[value].kind == CIPHERTEXT;
+}
+
+/* The live count after line n from the one before it. A line that names a value twice ends it once. */
+static inline uint32_t next_count(const struct file *schedule, const uint16_t *entries, uint32_t n, uint32_t live) {
+    const struct line *line = &schedule->lines[n];
+    live += line->kind == CIPHERTEXT && entries[n] > n;
+    if (line->word >= NEG)
+        live -= ends_at(schedule, entries, line->first, n);
+    if ((line->word == ADD || line->word == MUL) && line->second != line->first)
+        live -= ends_at(schedule, entries, line->second, n);
+    return live;
+}
+
+reply yardstick_may_drop(const uint8_t *bytes, size_t bytes_len, uint32_t value, uint32_t line) {
+    struct line lines[SCHEDULE_LINES];
+    uint16_t entries[SCHEDULE_LINES];
+    struct file schedule = {.lines = lines};
+    reply read = read_entries(bytes, bytes_len, &schedule, entries);
+    if (read.number)
+        return read;
+    if (value >= schedule.count || line >= schedule.count)
+        return refused(4, 0, 0);
+    return success(entries[value] <= line);
+}
+
+reply yardstick_live_after(const uint8_t *bytes, size_t bytes_len, uint32_t line) {
+    struct line lines[SCHEDULE_LINES];
+    uint16_t entries[SCHEDULE_LINES];
+    struct file schedule = {.lines = lines};
+    reply read = read_entries(bytes, bytes_len, &schedule, entries);
+    if (read.number)
+        return read;
+    if (line >= schedule.count)
+        return refused(4, 0, 0);
+    uint32_t live = 0;
+    for (uint32_t n = 0; n <= line; n++)
+        live = next_count(&schedule, entries, n, live);
+    return success(live);
+}
+
+reply yardstick_live_peak(const uint8_t *bytes, size_t bytes_len) {
+    struct line lines[SCHEDULE_LINES];
+    uint16_t entries[SCHEDULE_LINES];
+    struct file schedule = {.lines = lines};
+    reply read = read_entries(bytes, bytes_len, &schedule, entries);
+    if (read.number)
+        return read;
+    uint32_t live = 0, peak = 0;
+    for (uint32_t n = 0; n < schedule.count; n++) {
+        live = next_count(&schedule, entries, n, live);
+        peak = live > peak ? live : peak;
+    }
+    return success(peak);
+}
+
+/* Nothing is refused once the room is known to be enough: the bytes go to the caller at once. */
+reply yardstick_live(const uint8_t *bytes, size_t bytes_len, uint8_t *out, size_t out_len) {
+    struct line lines[SCHEDULE_LINES];
+    uint16_t entries[SCHEDULE_LINES];
+    struct file schedule = {.lines = lines};
+    reply read = read_entries(bytes, bytes_len, &schedule, entries);
+    if (read.number)
+        return read;
+    uint32_t live = 0, length = GOWASHIRU_LIVE_VALUE_BYTES * schedule.count;
+    if (length > out_len)
+        return refused(13, 0, 0);
+    for (uint32_t n = 0; n < schedule.count; n++, out += GOWASHIRU_LIVE_VALUE_BYTES) {
+        live = next_count(&schedule, entries, n, live);
+        out[0] = (uint8_t)entries[n];
+        out[1] = (uint8_t)(entries[n] >> 8);
+        out[2] = (uint8_t)live;
+        out[3] = (uint8_t)(live >> 8);
+    }
+    return success(length);
 }

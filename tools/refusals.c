@@ -60,6 +60,26 @@ static void tell_lines(const struct refusal *refusal) {
                 refusal->place - 1 + count_words(file, refusal->place, LISTING));
 }
 
+/* A value or a line that the schedule lacks stands in no line of it, so none is shown. A line has the number of its value. */
+static void tell_lacking(const struct refusal *refusal) {
+    static uint8_t live[GOWASHIRU_LIVE_BYTES];
+    const struct file *schedule = refusal->file;
+    uint32_t count = gowashiru_live(schedule->bytes, schedule->length, live, sizeof live).length / GOWASHIRU_LIVE_VALUE_BYTES;
+    bool lacks_value = refusal->value != NULL && *refusal->value >= count;
+    bool lacks_line = refusal->line != NULL && *refusal->line >= count;
+    fprintf(stderr, "%s: the schedule lacks", schedule->name);
+    if (lacks_value)
+        fprintf(stderr, " value %" PRIu32, *refusal->value);
+    if (lacks_line)
+        fprintf(stderr, "%s line %" PRIu32, lacks_value ? " and" : "", *refusal->line);
+    fprintf(stderr, " (refusal %" PRIu32 ")\n", refusal->number);
+    if (count == 0)
+        fputs("  It has a header alone, and so no value and no line to ask about.\n", stderr);
+    else
+        fprintf(stderr, "  It has %" PRIu32 " value%s, numbered 0 to %" PRIu32 ", and its lines have the same numbers: value n stands in line n + 2 of the file.\n",
+                count, count == 1 ? "" : "s", count - 1);
+}
+
 static void tell_levels(const struct refusal *refusal) {
     const struct file *circuit = refusal->file;
     struct header header = {.factor = 0};
@@ -143,6 +163,10 @@ static const char *title_of(const struct refusal *refusal) {
 }
 
 void tell_refusal(const struct refusal *refusal) {
+    if (refusal->number == GOWASHIRU_NO_USABLE_LINE && refusal->place == 0) {
+        tell_lacking(refusal);
+        return;
+    }
     const struct telling *telling = &tellings[refusal->number];
     struct piece line = line_at(refusal->file, refusal->place);
     fprintf(stderr, "%s:%" PRIu32 ": %s (refusal %" PRIu32 "): ", refusal->file->name, refusal->place, title_of(refusal),

@@ -19,8 +19,21 @@ static enum status refused(struct gowashiru_reply reply, const struct file *file
     return REFUSED;
 }
 
+/* Of a service that is asked about a value or a line; NULL where it is not. */
+static enum status refused_asking(struct gowashiru_reply reply, const uint32_t *value, const uint32_t *line) {
+    struct refusal refusal = {.number = reply.number, .place = reply.place, .file = &first, .value = value, .line = line};
+    tell_refusal(&refusal);
+    return REFUSED;
+}
+
 static enum status written(const struct arguments *arguments, const void *bytes, size_t length) {
     return write_result(arguments->output, bytes, length) ? DONE : FAILED;
+}
+
+static enum status written_number(const struct arguments *arguments, uint32_t number) {
+    char text[16];
+    int length = snprintf(text, sizeof text, "%" PRIu32 "\n", number);
+    return written(arguments, text, (size_t)length);
 }
 
 /* A service that makes one text of another. */
@@ -64,11 +77,7 @@ enum status run_least_level(const struct arguments *arguments) {
     if (!read_file(&first, arguments->names[0]))
         return FAILED;
     struct gowashiru_reply reply = gowashiru_least_level(first.bytes, first.length);
-    if (reply.number != GOWASHIRU_DONE)
-        return refused(reply, &first);
-    char text[16];
-    int length = snprintf(text, sizeof text, "%" PRIu32 "\n", reply.length);
-    return written(arguments, text, (size_t)length);
+    return reply.number != GOWASHIRU_DONE ? refused(reply, &first) : written_number(arguments, reply.length);
 }
 
 enum status run_quote(const struct arguments *arguments) {
@@ -83,10 +92,14 @@ enum status run_quote(const struct arguments *arguments) {
     return written(arguments, text, (size_t)length);
 }
 
+static bool read_schedule(const struct arguments *arguments) {
+    first.kind = SCHEDULE;
+    return read_file(&first, arguments->names[0]);
+}
+
 /* Only a schedule that keeps the rules has scales and levels to draw: it is checked against its own erasure. */
 enum status run_picture(const struct arguments *arguments) {
-    first.kind = SCHEDULE;
-    if (!read_file(&first, arguments->names[0]))
+    if (!read_schedule(arguments))
         return FAILED;
     struct gowashiru_reply reply = gowashiru_erase(first.bytes, first.length, out, sizeof out);
     if (reply.number == GOWASHIRU_DONE)
@@ -102,4 +115,49 @@ enum status run_picture(const struct arguments *arguments) {
     enum status status = written(arguments, svg, length);
     free(svg);
     return status;
+}
+
+enum status run_may_drop(const struct arguments *arguments) {
+    uint32_t value = arguments->numbers[0], line = arguments->numbers[1];
+    if (!read_schedule(arguments))
+        return FAILED;
+    struct gowashiru_reply reply = gowashiru_may_drop(first.bytes, first.length, value, line);
+    if (reply.number != GOWASHIRU_DONE)
+        return refused_asking(reply, &value, &line);
+    const char *answer = reply.length == 1 ? "yes\n" : "no\n";
+    return written(arguments, answer, strlen(answer));
+}
+
+enum status run_live_after(const struct arguments *arguments) {
+    uint32_t line = arguments->numbers[0];
+    if (!read_schedule(arguments))
+        return FAILED;
+    struct gowashiru_reply reply = gowashiru_live_after(first.bytes, first.length, line);
+    return reply.number != GOWASHIRU_DONE ? refused_asking(reply, NULL, &line) : written_number(arguments, reply.length);
+}
+
+enum status run_live_peak(const struct arguments *arguments) {
+    if (!read_schedule(arguments))
+        return FAILED;
+    struct gowashiru_reply reply = gowashiru_live_peak(first.bytes, first.length);
+    return reply.number != GOWASHIRU_DONE ? refused(reply, &first) : written_number(arguments, reply.length);
+}
+
+/* Two bytes, the lowest first. */
+static unsigned number_at(const uint8_t *bytes) {
+    return bytes[0] + 256u * bytes[1];
+}
+
+enum status run_live(const struct arguments *arguments) {
+    static char text[SCHEDULE_LINES * sizeof "65535\t65535\t65535\n"];
+    if (!read_schedule(arguments))
+        return FAILED;
+    struct gowashiru_reply reply = gowashiru_live(first.bytes, first.length, out, sizeof out);
+    if (reply.number != GOWASHIRU_DONE)
+        return refused(reply, &first);
+    size_t length = 0;
+    for (size_t at = 0; at < reply.length; at += GOWASHIRU_LIVE_VALUE_BYTES)
+        length += (size_t)snprintf(text + length, sizeof text - length, "%zu\t%u\t%u\n", at / GOWASHIRU_LIVE_VALUE_BYTES,
+                                   number_at(out + at), number_at(out + at + 2));
+    return written(arguments, text, length);
 }

@@ -12,5 +12,9 @@ enum status run_quote(const struct arguments *arguments);
 enum status run_from_rising(const struct arguments *arguments);
 enum status run_to_rising(const struct arguments *arguments);
 enum status run_picture(const struct arguments *arguments);
+enum status run_may_drop(const struct arguments *arguments);
+enum status run_live_after(const struct arguments *arguments);
+enum status run_live_peak(const struct arguments *arguments);
+enum status run_live(const struct arguments *arguments);
 
 #endif

@@ -1,7 +1,8 @@
 /*
  * A host of the library as a service is one. It loads the example circuits and schedules, makes listings, notes in a first pass on
  * one thread what every call replies and writes, and then repeats these calls from several threads at once, on stacks
- * of the size that the header states. The first difference ends it with a message that names the input.
+ * of the size that the header states. It also evaluates plans and schedules and drops each value as soon as it may. The first
+ * difference ends it with a message that names the input.
  *
  * Use: host [-n calls] [-t threads] [-r] [folder of the examples]
  * With -r a growth of the memory is only reported (valgrind's own memory grows).
@@ -34,16 +35,21 @@ enum {
     LONGEST_CIRCUIT = 4372,
     SCHEDULE_LINES = 1792,
     MOST_INPUTS = 2048,
-    MOST_JOBS = 4096,
+    MOST_JOBS = 8192,
     MOST_THREADS = 64,
     FAULT_STACK = 32768,
     SHOWN = 72,           /* bytes of a reply in a message */
-    OVERLAP_SECONDS = 20
+    OVERLAP_SECONDS = 20,
+    MOST_LIVE = 1194,     /* ciphertexts: each of the 598 lines that are left names at most two */
+    FEW_LINES = 64,       /* a schedule of no more is asked about every value after every line */
+    SLOTS = 4,            /* of a vector in an evaluation */
+    DROPPED = 0xdd        /* the bytes of a vector that was dropped */
 };
 
-enum service { PLAN, CHECK, ERASE, LEAST, QUOTE, FROM_RISING, TO_RISING };
+enum service { PLAN, CHECK, ERASE, LEAST, QUOTE, FROM_RISING, TO_RISING, MAY_DROP, LIVE_AFTER, LIVE_PEAK, LIVE };
 
-static const char *const service_names[] = {"plan", "check", "erase", "least level", "quote", "from rising", "to rising"};
+static const char *const service_names[] = {"plan",      "check",    "erase",      "least level", "quote", "from rising",
+                                            "to rising", "may drop", "live after", "live peak",   "live"};
 
 struct input {
     char name[128];
@@ -60,6 +66,7 @@ struct answer {
 struct job {
     enum service service;
     const struct input *file, *schedule; /* schedule: only of a check */
+    uint32_t value, line;                /* what is asked about, of may drop and live after */
     size_t room;                         /* length of the lent buffer */
     bool lends_null;
     struct answer reply;
@@ -106,13 +113,21 @@ static _Noreturn void die(const char *format, ...)
     end_with("", format, values);
 }
 
+static bool writes(const struct job *job)
+{
+    static const bool writing[] = {[PLAN] = true, [ERASE] = true, [FROM_RISING] = true, [TO_RISING] = true, [LIVE] = true};
+    return writing[job->service];
+}
+
 static _Noreturn void fail(const struct job *job, const char *format, ...)
 {
     char about[400];
     const char *service = service_names[job->service], *file = job->file->name;
     if (job->service == CHECK)
         snprintf(about, sizeof about, "%s of %s with %s: ", service, file, job->schedule->name);
-    else if (job->service == LEAST || job->service == QUOTE)
+    else if (job->service == MAY_DROP || job->service == LIVE_AFTER)
+        snprintf(about, sizeof about, "%s of %s, value %" PRIu32 ", line %" PRIu32 ": ", service, file, job->value, job->line);
+    else if (!writes(job))
         snprintf(about, sizeof about, "%s of %s: ", service, file);
     else
         snprintf(about, sizeof about, "%s of %s, buffer %s%zu: ", service, file, job->lends_null ? "NULL, " : "",
@@ -224,11 +239,6 @@ static const struct input *load(const char *folder, const char *name)
 
 /* ---- One call ---- */
 
-static bool writes(const struct job *job)
-{
-    return job->service != CHECK && job->service != LEAST && job->service != QUOTE;
-}
-
 static struct answer of_reply(struct gowashiru_reply reply)
 {
     return (struct answer){reply.number, reply.file, reply.place, reply.length, 0, 0};
@@ -255,6 +265,14 @@ static struct answer call(const struct job *job, uint8_t *out)
         return of_reply(gowashiru_from_rising(file->bytes, file->length, out, job->room));
     case TO_RISING:
         return of_reply(gowashiru_to_rising(file->bytes, file->length, out, job->room));
+    case MAY_DROP:
+        return of_reply(gowashiru_may_drop(file->bytes, file->length, job->value, job->line));
+    case LIVE_AFTER:
+        return of_reply(gowashiru_live_after(file->bytes, file->length, job->line));
+    case LIVE_PEAK:
+        return of_reply(gowashiru_live_peak(file->bytes, file->length));
+    case LIVE:
+        return of_reply(gowashiru_live(file->bytes, file->length, out, job->room));
     default:
         return of_reply(gowashiru_least_level(file->bytes, file->length));
     }
@@ -303,6 +321,26 @@ static void repeat(const struct job *job, uint8_t *block, uint8_t fill)
 
 /* ---- First pass ---- */
 
+/* What the header says of the length of a reply that is no refusal, and of a count what a schedule can have. */
+static bool is_lawful_length(enum service service, uint32_t length)
+{
+    switch (service) {
+    case CHECK:
+        return length == 0;
+    case LEAST:
+        return length >= 1 && length <= 60;
+    case MAY_DROP:
+        return length <= 1;
+    case LIVE_AFTER:
+    case LIVE_PEAK:
+        return length <= MOST_LIVE;
+    case LIVE:
+        return length % GOWASHIRU_LIVE_VALUE_BYTES == 0 && length <= GOWASHIRU_LIVE_BYTES;
+    default:
+        return length >= 1;
+    }
+}
+
 /* What the header says of every reply of a service. */
 static bool is_lawful(const struct job *job, struct answer reply)
 {
@@ -314,20 +352,21 @@ static bool is_lawful(const struct job *job, struct answer reply)
         [QUOTE] = 0x087e, /* 1 to 6, 11 */
         [FROM_RISING] = 0x6fbe, /* 1 to 5, 7 to 11, 13, 14 */
         [TO_RISING] = 0x2fbe, /* 1 to 5, 7 to 11, 13 */
+        [MAY_DROP] = 0x083e, /* 1 to 5, 11 */
+        [LIVE_AFTER] = 0x083e, /* 1 to 5, 11 */
+        [LIVE_PEAK] = 0x083e, /* 1 to 5, 11 */
+        [LIVE] = 0x283e, /* 1 to 5, 11, 13 */
     };
     /* A plan has a header, so a quote has a line; its price may be 0. */
     bool is_quoted = job->service == QUOTE && reply.number == 0;
     if (is_quoted ? reply.lines == 0 : reply.lines || reply.price)
         return false;
-    if (reply.number == 0) {
-        bool length = job->service == LEAST ? reply.length >= 1 && reply.length <= 60
-                    : job->service == CHECK ? reply.length == 0
-                                            : reply.length >= 1;
-        return reply.file == 0 && reply.place == 0 && length;
-    }
+    if (reply.number == 0)
+        return reply.file == 0 && reply.place == 0 && is_lawful_length(job->service, reply.length);
     if (reply.number > 14 || !(refusals[job->service] >> reply.number & 1) || reply.length)
         return false;
-    if (reply.number == 13)
+    bool asks = job->service == MAY_DROP || job->service == LIVE_AFTER;
+    if (reply.number == 13 || (reply.number == 4 && reply.place == 0 && asks))
         return reply.file == 0 && reply.place == 0;
     return reply.place >= 1 && (reply.file == 1 || (reply.file == 2 && job->service == CHECK && reply.number != 12));
 }
@@ -363,9 +402,9 @@ static void expect(const struct job *job, uint32_t number, uint32_t file, uint32
         fail_reply(job, job->reply, due);
 }
 
-static void expect_level(const struct job *job, uint32_t level)
+static void expect_length(const struct job *job, uint32_t length)
 {
-    struct answer due = {0, 0, 0, level, 0, 0};
+    struct answer due = {0, 0, 0, length, 0, 0};
     if (!same_reply(job->reply, due))
         fail_reply(job, job->reply, due);
 }
@@ -405,6 +444,26 @@ static struct job *add_to_rising(const struct input *schedule, size_t room)
     return add_job((struct job){.service = TO_RISING, .file = schedule, .room = room});
 }
 
+static struct job *add_may_drop(const struct input *schedule, uint32_t value, uint32_t line)
+{
+    return add_job((struct job){.service = MAY_DROP, .file = schedule, .value = value, .line = line});
+}
+
+static struct job *add_live_after(const struct input *schedule, uint32_t line)
+{
+    return add_job((struct job){.service = LIVE_AFTER, .file = schedule, .line = line});
+}
+
+static struct job *add_live_peak(const struct input *schedule)
+{
+    return add_job((struct job){.service = LIVE_PEAK, .file = schedule});
+}
+
+static struct job *add_live(const struct input *schedule, size_t room)
+{
+    return add_job((struct job){.service = LIVE, .file = schedule, .room = room});
+}
+
 /* The same call with other buffers: just enough, every shorter length, none. The soak repeats only the ends. */
 static void try_rooms(const struct job *done)
 {
@@ -415,6 +474,8 @@ static void try_rooms(const struct job *done)
     struct job *enough = add_job(job);
     if (!same_reply(enough->reply, done->reply))
         fail_reply(enough, enough->reply, done->reply);
+    if (done->reply.length == 0)
+        return;
     if (memcmp(enough->result, done->result, done->reply.length))
         fail(enough, "bytes differ from those in a longer buffer");
     job.result = NULL;
@@ -429,23 +490,47 @@ static void try_rooms(const struct job *done)
     expect(add_job(job), 13, 0, 0);
 }
 
-/* ---- Quotes, held to the plan that is written ---- */
+/* ---- Lines of a file that the library has read or written ---- */
 
-/* A line of a plan: its word, its numbers, 0 where it has none, and its level. */
+/* Its word, its numbers, 0 where it has none, and in a plan its level. */
 struct line {
     char word[8];
     long numbers[3];
     long level;
 };
 
-/* The lines of a plan whose price is known. */
-static struct line priced[SCHEDULE_LINES];
-static long priced_count;
-
 static bool is_word(const struct line *line, const char *word)
 {
     return strcmp(line->word, word) == 0;
 }
+
+/* Fills in the lines after the header and the header's L, and gives the number of lines. */
+static long read_lines(const struct job *job, const uint8_t *bytes, size_t length, struct line *lines, long *top)
+{
+    static char text[ENOUGH + 1];
+    char *rest = text;
+    long count = 0;
+    memcpy(text, bytes, length);
+    text[length] = 0;
+    if (sscanf(strsep(&rest, "\n"), "%*s\t%*d\t%*d\t%ld", top) != 1)
+        fail(job, "has no header");
+    for (; rest && *rest; count++) {
+        if (count == SCHEDULE_LINES)
+            fail(job, "has more than %d lines", SCHEDULE_LINES);
+        struct line *line = &lines[count];
+        *line = (struct line){.level = 0};
+        sscanf(strsep(&rest, "\n"), "%7s\t%ld\t%ld\t%ld", line->word, &line->numbers[0], &line->numbers[1], &line->numbers[2]);
+    }
+    if (!rest)
+        fail(job, "does not end in a line feed");
+    return count;
+}
+
+/* ---- Quotes, held to the plan that is written ---- */
+
+/* The lines of a plan whose price is known. */
+static struct line priced[SCHEDULE_LINES];
+static long priced_count;
 
 static const struct line *line_of(const struct job *plan, long value)
 {
@@ -495,23 +580,9 @@ static long price_line(const struct job *plan, struct line *line, long top)
 /* What counting over a written plan gives. */
 static struct answer count_over(const struct job *plan)
 {
-    static char text[ENOUGH + 1];
-    long top = 0, price = 0;
-    char *rest = text;
-    memcpy(text, plan->result, plan->reply.length);
-    text[plan->reply.length] = 0;
-    if (sscanf(strsep(&rest, "\n"), "schedule\t%*d\t%*d\t%ld", &top) != 1)
-        fail(plan, "has no header");
-    for (priced_count = 0; rest && *rest; priced_count++) {
-        if (priced_count == SCHEDULE_LINES)
-            fail(plan, "has more than %d lines", SCHEDULE_LINES);
-        struct line *line = &priced[priced_count];
-        *line = (struct line){.level = 0};
-        sscanf(strsep(&rest, "\n"), "%7s\t%ld\t%ld\t%ld", line->word, &line->numbers[0], &line->numbers[1], &line->numbers[2]);
-        price += price_line(plan, line, top);
-    }
-    if (!rest)
-        fail(plan, "does not end in a line feed");
+    long top, price = 0, count = read_lines(plan, plan->result, plan->reply.length, priced, &top);
+    for (priced_count = 0; priced_count < count; priced_count++)
+        price += price_line(plan, &priced[priced_count], top);
     return (struct answer){.length = plan->reply.length, .lines = (uint32_t)priced_count + 1, .price = (uint32_t)price};
 }
 
@@ -541,7 +612,303 @@ static struct job *plan_and_quote(const struct input *circuit, size_t room)
     return plan;
 }
 
+/* ---- Live ciphertexts: the table of a schedule held to a scan of its lines, and evaluations that drop by it ---- */
+
+/* The schedule that is looked at. */
+static struct line schedule_lines[SCHEDULE_LINES];
+static long schedule_count;
+
+static unsigned long evaluation_count, evaluated_lines, answer_count;
+static uint32_t most_held;
+
+static long number_at(const uint8_t *bytes)
+{
+    return bytes[0] + 256L * bytes[1];
+}
+
+/* The last line that names the value, by the table that the library wrote. */
+static long entry_of(const struct job *live, long value)
+{
+    return number_at(live->result + value * GOWASHIRU_LIVE_VALUE_BYTES);
+}
+
+static long count_after(const struct job *live, long line)
+{
+    return number_at(live->result + line * GOWASHIRU_LIVE_VALUE_BYTES + 2);
+}
+
+static int operand_count(const struct line *line)
+{
+    if (is_word(line, "in") || is_word(line, "const"))
+        return 0;
+    return is_word(line, "add") || is_word(line, "mul") ? 2 : 1;
+}
+
+static bool is_ciphertext(const struct line *line)
+{
+    return !is_word(line, "const") && !is_word(line, "enc") && !is_word(line, "out");
+}
+
+static bool names(const struct line *line, long value)
+{
+    for (int i = 0; i < operand_count(line); i++)
+        if (line->numbers[i] == value)
+            return true;
+    return false;
+}
+
+/* The last line after this one that names the value; -1 where none does. */
+static long last_naming(long value, long after)
+{
+    for (long line = schedule_count - 1; line > after; line--)
+        if (names(&schedule_lines[line], value))
+            return line;
+    return -1;
+}
+
+/* Every entry is what a scan gives, and every count the number of ciphertexts so far that the scan finds named later. */
+static void hold_to_scan(const struct job *live)
+{
+    static long last[SCHEDULE_LINES];
+    for (long value = 0; value < schedule_count; value++) {
+        last[value] = last_naming(value, value);
+        long due = last[value] < 0 ? value : last[value], count = 0;
+        if (entry_of(live, value) != due)
+            fail(live, "entry %ld of value %ld, due %ld", entry_of(live, value), value, due);
+        for (long earlier = 0; earlier <= value; earlier++)
+            count += last[earlier] > value && is_ciphertext(&schedule_lines[earlier]);
+        if (count_after(live, value) != count)
+            fail(live, "count %ld after line %ld, due %ld", count_after(live, value), value, count);
+    }
+}
+
+/* Asks this once; the soak does not repeat it. */
+static void ask(struct job job, struct answer due)
+{
+    job.reply = due;
+    repeat(&job, first_block, 0x5a);
+    answer_count++;
+}
+
+/* Where the schedule has the line: the answer is yes where the line is not before the value's own and a scan finds no later line that names it. */
+static void ask_may_drop(const struct input *schedule, long value, long line)
+{
+    if (line < 0)
+        return;
+    ask((struct job){.service = MAY_DROP, .file = schedule, .value = (uint32_t)value, .line = (uint32_t)line},
+        (struct answer){.length = line >= value && last_naming(value, line) < 0});
+}
+
+/* One by one: of a long schedule some values and lines, and of each of these values the lines around its own and around its entry. */
+static void ask_each(const struct job *live)
+{
+    long step = schedule_count > FEW_LINES ? FEW_LINES - 3 : 1;
+    for (long value = 0; value < schedule_count; value += step) {
+        ask((struct job){.service = LIVE_AFTER, .file = live->file, .line = (uint32_t)value},
+            (struct answer){.length = (uint32_t)count_after(live, value)});
+        for (long line = 0; line < schedule_count; line += step)
+            ask_may_drop(live->file, value, line);
+        ask_may_drop(live->file, value, value - 1);
+        ask_may_drop(live->file, value, value);
+        ask_may_drop(live->file, value, entry_of(live, value) - 1);
+        ask_may_drop(live->file, value, entry_of(live, value));
+    }
+}
+
+/* About a line, about a value and about both of this number: the same reply. */
+static void ask_about(const struct input *schedule, uint32_t number, struct answer due)
+{
+    ask((struct job){.service = LIVE_AFTER, .file = schedule, .line = number}, due);
+    ask((struct job){.service = MAY_DROP, .file = schedule, .line = number}, due);
+    ask((struct job){.service = MAY_DROP, .file = schedule, .value = number}, due);
+    ask((struct job){.service = MAY_DROP, .file = schedule, .value = number, .line = number}, due);
+}
+
+/* Numbers that the schedule lacks, among them those that 16 bits would take for small ones. */
+static void ask_for_lacking(const struct input *schedule)
+{
+    uint32_t past = (uint32_t)schedule_count;
+    const uint32_t lacking[] = {past, past + 1, 65536, past + 65536, UINT32_MAX};
+    for (size_t i = 0; i < sizeof lacking / sizeof lacking[0]; i++)
+        ask_about(schedule, lacking[i], (struct answer){.number = 4});
+    expect(add_live_after(schedule, past), 4, 0, 0);
+    expect(add_may_drop(schedule, past, UINT32_MAX), 4, 0, 0);
+}
+
+/* A vector, in place of a ciphertext. Numbers are taken modulo a prime, so that they stay small and none gets lost. */
+struct vector {
+    uint64_t slots[SLOTS];
+};
+
+static const uint64_t prime = 2147483647;
+
+/* What a line holds in the plain machine, whose numbers enc, rs, ms and us pass on. `handed_in` is the number of an input. */
+static struct vector held_by(const struct line *line, uint64_t handed_in, const struct vector *first, const struct vector *second)
+{
+    struct vector held;
+    for (size_t slot = 0; slot < SLOTS; slot++) {
+        uint64_t *number = &held.slots[slot];
+        if (is_word(line, "in"))
+            *number = (7919 * handed_in + 104729 * slot + 3) % prime;
+        else if (is_word(line, "const"))
+            *number = (7907 * (uint64_t)line->numbers[0] + 104723 * slot + 2) % prime;
+        else if (is_word(line, "neg"))
+            *number = (prime - first->slots[slot]) % prime;
+        else if (is_word(line, "rot"))
+            *number = first->slots[(slot + (size_t)(line->numbers[1] + 32768 * SLOTS)) % SLOTS];
+        else if (is_word(line, "add"))
+            *number = (first->slots[slot] + second->slots[slot]) % prime;
+        else if (is_word(line, "mul"))
+            *number = first->slots[slot] * second->slots[slot] % prime;
+        else
+            *number = first->slots[slot];
+    }
+    return held;
+}
+
+/* The results of the file that a schedule is compared with, from an evaluation that drops nothing. */
+static struct vector results[SCHEDULE_LINES];
+static long result_count;
+
+static void evaluate_keeping(const struct job *live, const struct input *file)
+{
+    static struct line all[SCHEDULE_LINES];
+    static struct vector kept[SCHEDULE_LINES];
+    long top, inputs_done = 0, count = read_lines(live, file->bytes, file->length, all, &top);
+    result_count = 0;
+    for (long line = 0; line < count; line++) {
+        int operands = operand_count(&all[line]);
+        const struct vector *first = operands > 0 ? &kept[all[line].numbers[0]] : NULL;
+        const struct vector *second = operands > 1 ? &kept[all[line].numbers[1]] : NULL;
+        kept[line] = held_by(&all[line], (uint64_t)inputs_done, first, second);
+        inputs_done += is_word(&all[line], "in");
+        if (is_word(&all[line], "out"))
+            results[result_count++] = kept[line];
+    }
+}
+
+/* What an evaluation that drops holds; NULL where nothing was made yet, and where it was dropped. */
+static struct vector *held[SCHEDULE_LINES];
+
+static void drop(long value)
+{
+    memset(held[value], DROPPED, sizeof *held[value]);
+    free(held[value]);
+    held[value] = NULL;
+}
+
+static long ciphertexts_held(void)
+{
+    long count = 0;
+    for (long value = 0; value < schedule_count; value++)
+        count += held[value] && is_ciphertext(&schedule_lines[value]);
+    return count;
+}
+
+/* An operand that was dropped would be named here. */
+static void do_line(const struct job *live, long number, uint64_t handed_in)
+{
+    const struct line *line = &schedule_lines[number];
+    const struct vector *operands[2] = {NULL, NULL};
+    for (int i = 0; i < operand_count(line); i++) {
+        operands[i] = held[line->numbers[i]];
+        if (!operands[i])
+            fail(live, "line %ld names value %ld, which was dropped", number, line->numbers[i]);
+    }
+    held[number] = malloc(sizeof *held[number]);
+    if (!held[number])
+        die("no memory for a vector");
+    *held[number] = held_by(line, handed_in, operands[0], operands[1]);
+}
+
+/* Only what the line has named, and the line itself, can have come to its entry. */
+static void drop_after(const struct job *live, long number)
+{
+    const struct line *line = &schedule_lines[number];
+    for (int i = 0; i < operand_count(line); i++)
+        if (held[line->numbers[i]] && entry_of(live, line->numbers[i]) <= number)
+            drop(line->numbers[i]);
+    if (entry_of(live, number) <= number)
+        drop(number);
+}
+
+/* Every line is done with what is still held, gives the results of the evaluation that drops nothing, and leaves as many ciphertexts as
+ * the table says: at most the peak, and at the end none. */
+static void evaluate_dropping(const struct job *live, long peak)
+{
+    long most = 0, inputs_done = 0, results_seen = 0;
+    for (long line = 0; line < schedule_count; line++) {
+        do_line(live, line, (uint64_t)inputs_done);
+        inputs_done += is_word(&schedule_lines[line], "in");
+        if (ciphertexts_held() > peak + 1)
+            fail(live, "line %ld is done with more than one ciphertext above the peak", line);
+        if (is_word(&schedule_lines[line], "out") &&
+            (results_seen == result_count || memcmp(held[line], &results[results_seen++], sizeof *held[line])))
+            fail(live, "line %ld has another result than the evaluation that drops nothing", line);
+        drop_after(live, line);
+        if (ciphertexts_held() != count_after(live, line))
+            fail(live, "%ld ciphertexts are held after line %ld, due %ld", ciphertexts_held(), line, count_after(live, line));
+        most = ciphertexts_held() > most ? ciphertexts_held() : most;
+    }
+    if (most != peak || results_seen != result_count)
+        fail(live, "most held %ld, peak %ld; %ld results, due %ld", most, peak, results_seen, result_count);
+    for (long value = 0; value < schedule_count; value++)
+        if (held[value])
+            fail(live, "value %ld is held at the end", value);
+    evaluation_count++;
+    evaluated_lines += (unsigned long)schedule_count;
+    most_held = (uint32_t)most > most_held ? (uint32_t)most : most_held;
+}
+
+/* A file that is refused is refused by all four alike, before a number that it lacks. */
+static void expect_alike(const struct job *live)
+{
+    const struct answer due = live->reply;
+    expect(add_live_peak(live->file), due.number, due.file, due.place);
+    expect(add_live_after(live->file, 0), due.number, due.file, due.place);
+    expect(add_may_drop(live->file, UINT32_MAX, UINT32_MAX), due.number, due.file, due.place);
+    ask_about(live->file, 0, due);
+    ask_about(live->file, UINT32_MAX, due);
+}
+
+/* All four calls on a schedule, and its evaluation, whose results are those of the other file: itself, or the circuit that it was made from. */
+static const struct job *try_live(const struct input *schedule, const struct input *other)
+{
+    const struct job *live = add_live(schedule, ENOUGH);
+    long top;
+    if (live->reply.number) {
+        expect_alike(live);
+        return live;
+    }
+    schedule_count = read_lines(live, schedule->bytes, schedule->length, schedule_lines, &top);
+    expect_length(live, (uint32_t)schedule_count * GOWASHIRU_LIVE_VALUE_BYTES);
+    hold_to_scan(live);
+    ask_each(live);
+    ask_for_lacking(schedule);
+    if (schedule_count > 0) {
+        expect_length(add_may_drop(schedule, 0, (uint32_t)schedule_count - 1), 1);
+        expect_length(add_live_after(schedule, (uint32_t)schedule_count - 1), 0);
+    }
+    if (schedule_count <= FEW_LINES)
+        try_rooms(live);
+    evaluate_keeping(live, other);
+    evaluate_dropping(live, add_live_peak(schedule)->reply.length);
+    return live;
+}
+
 /* ---- Replies beside the examples ---- */
+
+/* As the examples write it: a line for each value, and the largest count. */
+static int live_as_text(const struct job *live, char *text, size_t room)
+{
+    long most = 0;
+    size_t length = 0;
+    for (long value = 0; value < (long)live->reply.length / GOWASHIRU_LIVE_VALUE_BYTES; value++) {
+        length += (size_t)snprintf(text + length, room - length, "%ld\t%ld\t%ld\n", value, entry_of(live, value), count_after(live, value));
+        most = count_after(live, value) > most ? count_after(live, value) : most;
+    }
+    return (int)length + snprintf(text + length, room - length, "peak\t%ld\n", most);
+}
 
 /* The reply as the examples write it. */
 static size_t as_text(const struct job *job, uint8_t *text, size_t room)
@@ -561,6 +928,8 @@ static size_t as_text(const struct job *job, uint8_t *text, size_t room)
     else if (job->service == QUOTE)
         length = snprintf(line, room, "lines\t%" PRIu32 "\nbytes\t%" PRIu32 "\nprice\t%" PRIu32 "\n", reply.lines,
                           reply.length, reply.price);
+    else if (job->service == LIVE)
+        length = live_as_text(job, line, room);
     else {
         memcpy(text, job->result, reply.length);
         length = (int)reply.length;
@@ -612,15 +981,15 @@ static const struct job *go_out_and_back(const struct input *schedule)
     return out;
 }
 
-/* A plan that was written must pass against its circuit, erase to it, and go out as a listing and back. */
-static void close_circle(const struct job *plan)
+/* A plan that was written must pass against its circuit, erase to it, go out as a listing and back, and give the circuit's results when its
+ * values are dropped early. Its table of live ciphertexts. */
+static const struct job *close_circle(const struct job *plan)
 {
-    if (plan->reply.number)
-        return;
     const struct input *schedule = add_result("plan", plan);
     expect(add_check(plan->file, schedule), 0, 0, 0);
     expect_bytes(add_erase(schedule, ENOUGH), plan->file);
     expect(go_out_and_back(schedule), 0, 0, 0);
+    return try_live(schedule, plan->file);
 }
 
 /* ---- Examples ---- */
@@ -648,7 +1017,8 @@ static void try_circuit(const char *folder, const char *name)
     compare(quote, folder, name, ".quote");
     hold_to_plan(quote, plan);
     try_rooms(plan);
-    close_circle(plan);
+    if (plan->reply.number == 0)
+        compare(close_circle(plan), folder, name, ".plan.live");
 }
 
 static void try_schedule(const char *folder, const char *name)
@@ -661,6 +1031,7 @@ static void try_schedule(const char *folder, const char *name)
     compare(erased, folder, name, ".erasure");
     try_rooms(erased);
     go_out_and_back(schedule);
+    compare(try_live(schedule, schedule), folder, name, ".live");
 }
 
 static int try_all(const char *folder, const char *ending, void (*try_one)(const char *, const char *))
@@ -805,6 +1176,7 @@ static void try_large_constants(void)
         expect(add_check(good, schedule), due, 2, 3);
         expect(add_erase(schedule, ENOUGH), due, 1, 3);
         expect(add_to_rising(schedule, ENOUGH), due, 1, 3);
+        expect(try_live(schedule, schedule), due, 1, 3);
     }
 }
 
@@ -825,18 +1197,21 @@ static void try_long_schedules(void)
     expect_bytes(erased, circuit);
     try_rooms(erased);
     expect(go_out_and_back(longest), 0, 0, 0);
+    try_rooms(try_live(longest, circuit));
 
     put("%.*sus\t0\t1\n", (int)longest->length, (const char *)longest->bytes);
     const struct input *over = take("1793 lines.schedule");
     expect(add_check(circuit, over), 3, 2, 1794);
     expect(add_erase(over, ENOUGH), 3, 1, 1794);
     expect(add_to_rising(over, ENOUGH), 3, 1, 1794);
+    expect(try_live(over, over), 3, 1, 1794);
 
     put("schedule%.*sneg\t0\n", (int)circuit->length - 7, (const char *)circuit->bytes + 7);
     const struct input *kept = take("257 kept lines.schedule");
     expect(add_check(circuit, kept), 12, 1, 258);
     expect(add_erase(kept, ENOUGH), 3, 1, 258);
     expect(add_to_rising(kept, ENOUGH), 3, 1, 258);
+    expect(try_live(kept, kept), 0, 0, 0);
 }
 
 /* A converted listing passes against its own erasure, and its schedule goes out and back. */
@@ -847,8 +1222,10 @@ static void try_converted(const struct job *converted)
     const struct input *schedule = add_result("schedule", converted);
     const struct job *erased = add_erase(schedule, ENOUGH);
     expect(erased, 0, 0, 0);
-    expect(add_check(add_result("erasure", erased), schedule), 0, 0, 0);
+    const struct input *circuit = add_result("erasure", erased);
+    expect(add_check(circuit, schedule), 0, 0, 0);
     expect(go_out_and_back(schedule), 0, 0, 0);
+    expect(try_live(schedule, circuit), 0, 0, 0);
 }
 
 /* A listing of so many inputs and of downscales of the first, and a last line. */
@@ -908,15 +1285,15 @@ static void try_headroom_of_plans(void)
         const struct input *circuit = with_headroom("circuit", "60\t20\t2", fitting[i], circuit_lines);
         const struct job *plan = plan_and_quote(circuit, ENOUGH);
         expect_bytes(plan, with_headroom("schedule", "60\t20\t2", fitting[i], plan_lines));
-        expect_level(add_least(circuit), 2);
+        expect_length(add_least(circuit), 2);
         try_rooms(plan);
         close_circle(plan);
     }
     const struct input *over = with_headroom("circuit", "60\t20\t2", "21", circuit_lines);
     expect(plan_and_quote(over, ENOUGH), 6, 1, 6);
-    expect_level(add_least(over), 3);
-    expect_level(add_least(with_headroom("circuit", "1\t30\t1", NULL, "in\n")), 30);
-    expect_level(add_least(with_headroom("circuit", "1\t30\t1", "30", "in\n")), 60);
+    expect_length(add_least(over), 3);
+    expect_length(add_least(with_headroom("circuit", "1\t30\t1", NULL, "in\n")), 30);
+    expect_length(add_least(with_headroom("circuit", "1\t30\t1", "30", "in\n")), 60);
     expect(add_least(with_headroom("circuit", "1\t30\t1", "31", "in\n")), 6, 1, 2);
 }
 
@@ -945,7 +1322,7 @@ static void try_levels(const char *name)
         if (plan->reply.number != (level < least ? 6 : 0))
             fail(plan, "number %" PRIu32 ", and the least level is %d", plan->reply.number, least);
         if (level >= least)
-            expect_level(add_least(plan->file), (uint32_t)least);
+            expect_length(add_least(plan->file), (uint32_t)least);
     }
     expect(add_plan(with_level(circuit, 61), ENOUGH), 2, 1, 1);
 }
@@ -1022,7 +1399,113 @@ static void try_damaged_headroom(void)
         expect(add_check(good, schedule), due, 2, 1);
         expect(add_erase(schedule, ENOUGH), due, 1, 1);
         expect(add_to_rising(schedule, ENOUGH), due, 1, 1);
+        expect(try_live(schedule, schedule), due, 1, 1);
         expect(add_from_rising(with_headroom("rising", "60\t20\t2", faults[i].headroom, "in\n"), ENOUGH), due, 1, 1);
+    }
+}
+
+static void expect_peak(const struct input *schedule, uint32_t peak)
+{
+    expect(try_live(schedule, schedule), 0, 0, 0);
+    expect_length(add_live_peak(schedule), peak);
+}
+
+/* A header alone; full schedules whose values are never named, all named by the last lines, each by the next, and one by all. */
+static void try_live_limits(void)
+{
+    put("schedule\t60\t20\t2\n");
+    expect_peak(take("header alone.schedule"), 0);
+
+    put("schedule\t60\t20\t2\n");
+    for (int value = 0; value < SCHEDULE_LINES; value++)
+        put("in\n");
+    expect_peak(take("1792 inputs.schedule"), 0);
+
+    put("schedule\t60\t20\t2\n");
+    for (int value = 0; value < MOST_LIVE; value++)
+        put("in\n");
+    for (int value = 0; value < MOST_LIVE; value += 2)
+        put("add\t%d\t%d\n", value, value + 1);
+    put("out\t%d\n", SCHEDULE_LINES - 2);
+    expect_peak(take("most live.schedule"), MOST_LIVE);
+
+    put("schedule\t60\t20\t2\nin\n");
+    for (int value = 1; value < SCHEDULE_LINES; value++)
+        put(value == SCHEDULE_LINES - 1 ? "out\t0\n" : "rot\t0\t%d\n", value);
+    expect_peak(take("one for all.schedule"), 1);
+
+    put("schedule\t60\t20\t2\nconst\t4294967295\n");
+    for (int value = 1; value < SCHEDULE_LINES; value++)
+        put("enc\t0\t3600\t2\n");
+    expect_peak(take("1791 enc.schedule"), 0);
+}
+
+static uint32_t random_below(uint32_t *seed, uint32_t most)
+{
+    *seed = *seed * 1664525u + 1013904223u;
+    return (*seed >> 8) % most;
+}
+
+/* An earlier value of this kind: c a ciphertext, k a constant, e an encoded one. The first three values are one of each. */
+static unsigned pick(const char *kinds, unsigned before, char kind, uint32_t *seed)
+{
+    unsigned value = random_below(seed, before);
+    while (kinds[value] != kind)
+        value = value == 0 ? before - 1 : value - 1;
+    return value;
+}
+
+/* A line of any word, with operands of the right kinds; levels and scales are as they come. Its kind. */
+static char put_random_line(const char *kinds, unsigned value, uint32_t *seed)
+{
+    unsigned one = pick(kinds, value, 'c', seed), other = pick(kinds, value, random_below(seed, 3) ? 'c' : 'e', seed);
+    bool turned = random_below(seed, 2);
+    switch (random_below(seed, 13)) {
+    case 0:
+        put("in\n");
+        return 'c';
+    case 1:
+        put("const\t%u\n", random_below(seed, 65536) * 65537u);
+        return 'k';
+    case 2:
+        put("enc\t%u\t%u\t1\n", pick(kinds, value, 'k', seed), 1 + random_below(seed, 3600));
+        return 'e';
+    case 3:
+        put("out\t%u\n", one);
+        return 'o';
+    case 4:
+        put("neg\t%u\n", one);
+        return 'c';
+    case 5:
+        put("rot\t%u\t%d\n", one, (int)random_below(seed, 65535) - 32767);
+        return 'c';
+    case 6:
+    case 7:
+        put("%s\t%u\t%u\n", random_below(seed, 2) ? "rs" : "ms", one, 1 + random_below(seed, 60));
+        return 'c';
+    case 8:
+        put("us\t%u\t%u\n", one, 1 + random_below(seed, 3600));
+        return 'c';
+    default:
+        put("%s\t%u\t%u\n", random_below(seed, 2) ? "add" : "mul", turned ? other : one, turned ? one : other);
+        return 'c';
+    }
+}
+
+/* Schedules of all words, which read and mostly break the rules: short ones of each length, and full ones. */
+static void try_random_schedules(void)
+{
+    char name[64], kinds[SCHEDULE_LINES];
+    for (unsigned number = 0; number < 40; number++) {
+        uint32_t seed = number;
+        unsigned length = number < 36 ? 4 + number : SCHEDULE_LINES;
+        put("schedule\t60\t20\t2\nin\nconst\t7\nenc\t1\t20\t2\n");
+        memcpy(kinds, "cke", 3);
+        for (unsigned value = 3; value < length; value++)
+            kinds[value] = put_random_line(kinds, value, &seed);
+        snprintf(name, sizeof name, "random %u.schedule", number);
+        const struct input *schedule = take(name);
+        expect(try_live(schedule, schedule), 0, 0, 0);
     }
 }
 
@@ -1054,6 +1537,7 @@ static void try_damaged_schedule(const struct input *damaged)
     add_check(find("listing.circuit"), damaged);
     add_erase(damaged, 1024);
     add_to_rising(damaged, 1024);
+    try_live(damaged, damaged);
 }
 
 static void try_damaged_listing(const struct input *damaged)
@@ -1082,6 +1566,9 @@ static void try_null(void)
         expect(add_job(nothing), 1, 1, 1);
     expect(add_from_rising(none, ENOUGH), 1, 1, 1);
     expect(add_to_rising(none, ENOUGH), 1, 1, 1);
+    nothing.service = LIVE;
+    expect(add_job(nothing), 1, 1, 1);
+    expect(try_live(none, none), 1, 1, 1);
 }
 
 /* ---- Input and output in the same buffer: outside the contract, so only looked at ---- */
@@ -1244,6 +1731,8 @@ static void first_pass(const char *folder)
     try_another_headroom();
     try_headroom_of_listings();
     try_damaged_headroom();
+    try_live_limits();
+    try_random_schedules();
     try_null();
     whole_count = job_count;
     try_damaged("listing.circuit", try_damaged_circuit);
@@ -1254,6 +1743,8 @@ static void first_pass(const char *folder)
     try_damaged("H 40.rising", try_damaged_listing);
     printf("first pass: %d circuits, %d schedules, %zu inputs in all, %zu calls to repeat\n", circuits, schedules,
            input_count, job_count);
+    printf("dropping: %lu evaluations, %lu lines, at most %" PRIu32 " ciphertexts held after a line; %lu answers held to a scan\n",
+           evaluation_count, evaluated_lines, most_held, answer_count);
 }
 
 int main(int count, char **words)
@@ -1278,6 +1769,7 @@ int main(int count, char **words)
     try_overlap(ERASE);
     try_overlap(FROM_RISING);
     try_overlap(TO_RISING);
+    try_overlap(LIVE);
     fflush(stdout);
     soak(calls, only_report);
     puts("passed");

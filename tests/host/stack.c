@@ -13,11 +13,12 @@
 #include <string.h>
 #include <ucontext.h>
 
-enum { FILL = 0xA5, MOST_INPUTS = 32, SERVICES = 8 };
+enum { FILL = 0xA5, MOST_INPUTS = 32, SERVICES = 12 };
 
-enum service { NOTHING, PLAN, CHECK, ERASE, LEAST, QUOTE, FROM_RISING, TO_RISING };
+enum service { NOTHING, PLAN, CHECK, ERASE, LEAST, QUOTE, FROM_RISING, TO_RISING, MAY_DROP, LIVE_AFTER, LIVE_PEAK, LIVE };
 
-static const char *const names[SERVICES] = {"nothing", "plan", "check", "erase", "least level", "quote", "from rising", "to rising"};
+static const char *const names[SERVICES] = {"nothing",     "plan",      "check",    "erase",      "least level", "quote",
+                                            "from rising", "to rising", "may drop", "live after", "live peak",   "live"};
 
 struct input {
     char *bytes;
@@ -49,6 +50,14 @@ static void call(void)
         gowashiru_from_rising(one, first.length, out, sizeof out);
     else if (service == TO_RISING)
         gowashiru_to_rising(one, first.length, out, sizeof out);
+    else if (service == MAY_DROP)
+        gowashiru_may_drop(one, first.length, 0, 1791);
+    else if (service == LIVE_AFTER)
+        gowashiru_live_after(one, first.length, 1791);
+    else if (service == LIVE_PEAK)
+        gowashiru_live_peak(one, first.length);
+    else if (service == LIVE)
+        gowashiru_live(one, first.length, out, sizeof out);
 }
 
 /* The bytes of stack that the call took. */
@@ -107,6 +116,18 @@ static void make_schedule(const char *last)
     for (int value = 1; value < 1791; value++)
         put(value % 7 ? "us\t%d\t1\n" : "neg\t%d\n", value - 1);
     put("%s", last);
+    take();
+}
+
+/* As many live ciphertexts as a schedule can have: each of the last lines names two. */
+static void make_sums(void)
+{
+    put("schedule\t60\t20\t60\n");
+    for (int value = 0; value < 1194; value++)
+        put("in\n");
+    for (int value = 0; value < 1194; value += 2)
+        put("add\t%d\t%d\n", value, value + 1);
+    put("out\t1790\n");
     take();
 }
 
@@ -176,6 +197,7 @@ static void make_inputs(void)
     make_schedule("const\t4294967295\n");
     make_schedule("const\t99999999999\n");
     make_constants();
+    make_sums();
     make_listings();
     put("schedule\t99999999999\t99999999999\t99999999999\t99999999999\n");
     take();
@@ -205,7 +227,7 @@ int main(void)
     make_inputs();
     size_t own = most_of(NOTHING), most = 0;
     printf("stack:");
-    for (enum service asked = PLAN; asked <= TO_RISING; asked++) {
+    for (enum service asked = PLAN; asked <= LIVE; asked++) {
         size_t bytes = most_of(asked) - own;
         printf("%s %s %zu bytes", asked == PLAN ? "" : ",", names[asked], bytes);
         most = bytes > most ? bytes : most;

@@ -15,7 +15,7 @@ use Rattle.model.specs.Services.{erase, eraseFile}
 use Rattle.model.specs.Answers.{rulesAnswer, check}
 use Rattle.text.specs.Files.{readText, circuitContext, scheduleContext, eraseContext, fileText}
 use Rattle.listings.specs.Held.{countedTable, heldAnswer}
-use Rattle.tables.specs.Records.{linesHeld, held}
+use Rattle.tables.specs.Records.{linesHeld, held, IsSchedule}
 use Rattle.tables.proofs.Records.{still-long}
 use Rattle.reader.specs.declared.FileRead.{FileRead}
 use Rattle.reader.specs.declared.FileRead.the-variants as Read
@@ -25,7 +25,6 @@ use Rattle.rules.proofs.Counted.{schedule-counted, schedule-answer}
 use Rattle.erasing.specs.declared.Compared.{Compared}
 use Rattle.erasing.specs.declared.Compared.the-variants.{Same, Differs}
 use Rattle.erasing.specs.Comparing.{afterCompared}
-use Rattle.erasing.specs.Lines.{IsSchedule}
 use Rattle.services.specs.declared.Reply.{Reply}
 use Rattle.services.specs.Outcomes.{Outcome, writes, refuses, replyOf, Replied}
 use Rattle.services.specs.Calls.{answered, onceRead, checkOutcome, eraseOutcome}

@@ -8,12 +8,12 @@ use lib.ListN.{length, getD, set, replicate, length-set}
 use Rattle.model.specs.declared.Line.{Line}
 use Rattle.model.specs.declared.Line.the-variants.{Free}
 use Rattle.model.specs.Services.{erase}
-use Rattle.tables.specs.Records.{lineOf, linesOf, linesHeld, freeRecords}
+use Rattle.tables.specs.Records.{lineOf, linesOf, linesHeld, freeRecords, IsSchedule}
 use Rattle.tables.proofs.Records.{free-long}
 use Rattle.tables.proofs.HeldLines.{stored-lines}
 use Rattle.erasing.specs.declared.Erased.{Erased}
 use Rattle.erasing.specs.declared.Erased.the-variants.{Kept, Struck}
-use Rattle.erasing.specs.Lines.{IsSchedule, erasedTo, erasedBy}
+use Rattle.erasing.specs.Lines.{erasedTo, erasedBy}
 use Rattle.erasing.proofs.Walking.{Walking, restOf, walk-start, none-left, few-kept, place-fits, line-there, first-small, second-small, word-known, walk-on, rest-kept, rest-struck}
 
 -- The loop's invariant: the records hold what erasing keeps of the schedule's first i lines, and with what it keeps of the rest that is

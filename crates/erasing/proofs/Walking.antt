@@ -18,13 +18,13 @@ use Rattle.model.specs.Services.{Fate, kept, madeFrom, renumbered, eraseFrom, e
 use Rattle.model.proofs.Tests.{below-or-not}
 use Rattle.model.proofs.Formed.{LineFacts, formed-index, well-lines}
 use Rattle.text.proofs.Tables.{table-length}
-use Rattle.tables.specs.Records.{lineOf, linesOf, linesHeld, held, isStruck}
+use Rattle.tables.specs.Records.{lineOf, linesOf, linesHeld, held, isStruck, IsSchedule}
 use Rattle.operands.specs.Operands.{firstOperand, secondOperand, withOperands}
 use Rattle.operands.proofs.Operands.{operand-below}
 use Rattle.tables.proofs.HeldLines.{formed-few, formed-long, records-long, next-line, no-line}
 use Rattle.erasing.specs.declared.Erased.{Erased}
 use Rattle.erasing.specs.declared.Erased.the-variants.{Kept, Struck}
-use Rattle.erasing.specs.Lines.{IsSchedule, LineErased, keptAs, struckFrom, erasedTo, erasedBy}
+use Rattle.erasing.specs.Lines.{LineErased, keptAs, struckFrom, erasedTo, erasedBy}
 use Rattle.erasing.proofs.LineLaws.{line-kept, line-struck, renamed-is, origin-held}
 
 -- i lines are read, of which `at` are kept; the first i origins are theirs, and before the first line every origin is 0

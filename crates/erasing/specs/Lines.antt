@@ -1,21 +1,13 @@
--- A schedule's table, and what erasing makes of one of its lines, as the code has it.
+-- What erasing makes of a line of a schedule, as the code has it.
 use Prim.Native.Nat.{ℕ}
 use mathlib.Core.Bool.{cond}
 use mathlib.Core.List.{List, [], _∷_}
 use lib.ListN.{getD}
-use Rattle.model.specs.declared.Header.{Header}
 use Rattle.model.specs.declared.Line.{Line}
-use Rattle.model.specs.declared.Grammar.the-variants.{Schedule}
-use Rattle.text.specs.Tables.{TableFormed}
-use Rattle.tables.specs.Records.{lineOf, held, isStruck}
+use Rattle.tables.specs.Records.{lineOf, isStruck}
 use Rattle.operands.specs.Operands.{firstOperand, secondOperand, withOperands}
 use Rattle.erasing.specs.declared.Erased.{Erased}
 use Rattle.erasing.specs.declared.Erased.the-variants.{Kept, Struck}
-
--- the records of a well-formed schedule, under some header
-pub record IsSchedule (records : List (List ℕ)) (count : ℕ) : Type 0 where
-  pub header : Header
-  pub formed : TableFormed Schedule (held header records count)
 
 -- what erasing makes of a line: it is kept as another line, or struck, with the origin that it then has
 pub data LineErased : Type 0 where

@@ -15,9 +15,9 @@ ghost use Rattle.model.specs.Scales.{headroomNumbers};
 ghost use Rattle.model.specs.Answers.{sameNumbers, sameHeader, rulesAnswer, check};
 ghost use Rattle.text.specs.Tables.{TableFormed, fileOf};
 ghost use Rattle.operands.specs.Operands.{firstOperand, secondOperand};
-ghost use Rattle.tables.specs.Records.{lineOf, linesOf, linesHeld, freeRecords, held};
+ghost use Rattle.tables.specs.Records.{lineOf, linesOf, linesHeld, freeRecords, held, IsSchedule};
 ghost use Rattle.erasing.specs.Comparing.{afterCompared, beginWith};
-ghost use Rattle.erasing.specs.Lines.{IsSchedule, erasedTo, erasedBy};
+ghost use Rattle.erasing.specs.Lines.{erasedTo, erasedBy};
 
 // What erasing makes of a line: it is kept, its operands counted anew, and its record has these numbers, since an enum holds no array; or it
 // is struck and was made from this kept line.

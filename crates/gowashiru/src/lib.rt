@@ -5,6 +5,7 @@ ghost use Rattle.services.specs.Promises.{PlanPromise, CheckPromise, ErasePromi
 ghost use Rattle.services.specs.Listings.{FromRisingPromise};
 ghost use Rattle.risingwriter.specs.GoingOut.{ToRisingPromise};
 ghost use Rattle.quotes.specs.Quotes.{QuotePromise};
+ghost use Rattle.dropping.specs.Dropping.{MayDropPromise, LiveAfterPromise, LivePeakPromise, LivePromise};
 
 // Plans a circuit.
 #[no_mangle]
@@ -60,4 +61,36 @@ pub extern "C" fn gowashiru_quote(circuit: &[u8]) -> QuoteReply
     ensures { λ r. ⌜ QuotePromise (now (circuit .entry)) r ⌝ }
 {
     quotes::quote(circuit)
+}
+
+// Whether a value of a schedule may be dropped after a line.
+#[no_mangle]
+pub extern "C" fn gowashiru_may_drop(schedule: &[u8], value: u32, line: u32) -> Reply
+    ensures { λ r. ⌜ MayDropPromise (now (schedule .entry)) value line r ⌝ }
+{
+    dropping::may_drop(schedule, value, line)
+}
+
+// How many ciphertexts of a schedule are live after a line.
+#[no_mangle]
+pub extern "C" fn gowashiru_live_after(schedule: &[u8], line: u32) -> Reply
+    ensures { λ r. ⌜ LiveAfterPromise (now (schedule .entry)) line r ⌝ }
+{
+    dropping::live_after(schedule, line)
+}
+
+// How many ciphertexts of a schedule are live at most.
+#[no_mangle]
+pub extern "C" fn gowashiru_live_peak(schedule: &[u8]) -> Reply
+    ensures { λ r. ⌜ LivePeakPromise (now (schedule .entry)) r ⌝ }
+{
+    dropping::live_peak(schedule)
+}
+
+// The last line that names each value of a schedule, and how many ciphertexts are live after its own line.
+#[no_mangle]
+pub extern "C" fn gowashiru_live(schedule: &[u8], out: &mut [u8]) -> Reply
+    ensures { λ r. ⌜ LivePromise (now (schedule .entry)) (now (out .entry)) r (now (out .exit)) ⌝ }
+{
+    dropping::live(schedule, out)
 }

@@ -16,7 +16,7 @@ use Rattle.model.specs.Demands.{Schedulable}
 use Rattle.model.proofs.Tests.{below-or-not}
 use Rattle.text.specs.Files.{readText, circuitContext, scheduleContext}
 use Rattle.services.specs.declared.Reply.{Reply}
-use Rattle.services.specs.Outcomes.{Outcome, writes, passes, fitsAt, refuses, lent, replyOf, bytesAfter, Replied}
+use Rattle.services.specs.Outcomes.{Outcome, writes, passes, tells, refuses, lent, replyOf, bytesAfter, Replied}
 use Rattle.services.specs.Calls.{planOutcome}
 use Rattle.services.specs.Promises.{OnceRead, unread, is-read, PlanComesTo, too-few, plans, PlanPromise}
 use Rattle.services.proofs.Steps.{replied-as}
@@ -65,7 +65,7 @@ pub record PlannersOwn (n : ℕ) : Type 0 where
 abbrev Told : Outcome → Type 0
 Told (writes text) = Unit {0}
 Told passes = Unit {0}
-Told (fitsAt l) = Unit {0}
+Told (tells l) = Unit {0}
 Told (refuses n f p) = PlannersOwn n
 
 told : (circuit : Bytes) {o : Outcome} → OnceRead (readText circuitContext circuit) 1 (PlanComesTo circuit) o → Told o

@@ -9,7 +9,7 @@ use Rattle.fields.specs.Pieces.{Bytes, sameBytes}
 use Rattle.rows.specs.Rows.{Reading, read, refused}
 use Rattle.model.specs.Files.{File}
 use Rattle.text.specs.Files.{readText, scheduleContext}
-use Rattle.services.specs.Outcomes.{Outcome, writes, passes, fitsAt, refuses}
+use Rattle.services.specs.Outcomes.{Outcome, writes, passes, tells, refuses}
 use Rattle.services.specs.Calls.{planOutcome}
 use Rattle.services.specs.Worked.{shown, example, fourth, withLines, inputs257}
 use Rattle.prices.specs.Worked.{checkedPrice}
@@ -25,7 +25,7 @@ abbrev pub replyTo : Outcome → QuoteReply
 replyTo (writes text) =
     record { number = 0; file = 0; place = 0; lines = lineFeeds text; bytes = length text; price = pricedAs (readText scheduleContext text) }
 replyTo passes = refusalReply 0 0 0
-replyTo (fitsAt l) = refusalReply 0 0 0
+replyTo (tells l) = refusalReply 0 0 0
 replyTo (refuses n f p) = refusalReply n f p
 
 abbrev pub quoteReply : Bytes → QuoteReply

@@ -23,7 +23,7 @@ use Rattle.tables.specs.Records.{lineOf, held}
 use Rattle.spelling.specs.Put.{Counted}
 use Rattle.writer.specs.Writing.{Written}
 use Rattle.services.specs.declared.Reply.{Reply}
-use Rattle.services.specs.Outcomes.{Outcome, writes, refuses, replyOf, Replied}
+use Rattle.services.specs.Outcomes.{writes, tells, refuses, replyOf, Replied}
 use Rattle.services.specs.Calls.{answered}
 
 -- ---- the file at fault
@@ -42,8 +42,8 @@ module _ (file : ℕ) (a : Answer) where
   pub answer-done : (r : Reply) → a ≡ Done → r ≡ replyOf (refuses 0 0 0) → r ≡ replyOf (answered file a)
   answer-done r e q = rw e q
 
-  pub answer-level : (l : ℕ) → a ≡ Level l → replyOf (Outcome.fitsAt l) ≡ replyOf (answered file a)
-  answer-level l e = rw e
+  pub answer-level : (l : ℕ) (r : Reply) → a ≡ Level l → r ≡ replyOf (tells l) → r ≡ replyOf (answered file a)
+  answer-level l r e q = rw e q
 
   pub answer-refused : (n p f : ℕ) (r : Reply) → a ≡ Refused n p → f ≡ answerFile file (Refused n p) → r ≡ replyOf (refuses n f p) → r ≡ replyOf (answered file a)
   answer-refused n p f r e q s = rw (e, ← q) s
@@ -81,9 +81,8 @@ module _ (text out : Bytes) (needed : ℕ) (same : leb needed (length out) ≡ l
     pub fits : length text ≤ length out
     fits = leb→le (length text) (length out) (subst T (sym test) tt)
 
-    pub all-written : (written : ℕ) (after : Bytes) → Written out text written after
-        → Replied (writes text) out (record { number = 0; file = 0; place = 0; length = written }) after
-    all-written written after w = record { reply = rw (test, w .counted); bytes = rw test (w .bytes) }
+    pub all-written : (written : ℕ) (after : Bytes) (r : Reply) → Written out text written after → r ≡ replyOf (tells written) → Replied (writes text) out r after
+    all-written written after r w e = record { reply = e ∙ rw (test, w .counted); bytes = rw test (w .bytes) }
 
 pub ruleset reply-laws =
     (needs, no-place, other-circuit, its-own, answer-done, answer-level, answer-refused, room-for-all, counted-through, too-short, fits, length-fits, all-written)

@@ -12,7 +12,7 @@ ghost use Rattle.model.specs.declared.Answer.the-variants.{Refused};
 ghost use Rattle.tables.specs.Records.{held};
 ghost use Rattle.text.specs.Tables.{fileOf};
 ghost use Rattle.text.specs.Files.{textUnder};
-ghost use Rattle.services.specs.Outcomes.{writes, refuses, replyOf, Replied};
+ghost use Rattle.services.specs.Outcomes.{writes, tells, refuses, replyOf, Replied};
 ghost use Rattle.services.specs.Calls.{answered};
 
 pub fn refusal(number: u32, file: u32, place: u32) -> Reply
@@ -23,6 +23,18 @@ pub fn refusal(number: u32, file: u32, place: u32) -> Reply
         file: file,
         place: place,
         length: 0,
+    }
+}
+
+// A number: a least level, an answer or a count, or how many bytes were written.
+pub fn told(number: u32) -> Reply
+    ensures { λ r. ⌜ r ≡ replyOf (tells number) ⌝ }
+{
+    Reply {
+        number: 0,
+        file: 0,
+        place: 0,
+        length: number,
     }
 }
 
@@ -44,12 +56,7 @@ pub fn answered(file: u32, answer: Answer) -> Reply
 {
     match answer {
         Answer::Done => refusal(0, 0, 0),
-        Answer::Level(level) => Reply {
-            number: 0,
-            file: 0,
-            place: 0,
-            length: level,
-        },
+        Answer::Level(level) => told(level),
         Answer::Refused { number, place } => {
             refusal(number, file_at_fault(file, number, place), place)
         }
@@ -95,10 +102,5 @@ pub fn lend<'a>(
         return refusal(13, 0, 0);
     }
     let written = writer::put_file(out, word, header, records, count);
-    Reply {
-        number: 0,
-        file: 0,
-        place: 0,
-        length: written as u32,
-    }
+    told(written as u32)
 }

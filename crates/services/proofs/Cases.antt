@@ -14,7 +14,7 @@ use Rattle.rows.specs.Fields.{readFields}
 use Rattle.rows.specs.Forms.{named}
 use Rattle.rows.specs.Lines.{linesOf, textOf}
 use Rattle.rows.specs.Rows.{readLine, rowsFrom, ended, readLines, readFile, fileText}
-use Rattle.services.specs.Outcomes.{Outcome, writes, passes, fitsAt, refuses}
+use Rattle.services.specs.Outcomes.{Outcome, writes, passes, tells, refuses}
 use Rattle.services.specs.Calls.{convertedOutcome}
 use Rattle.services.specs.WorkedListings.{listingRows, fullPlaces, allAlike}
 use Rattle.services.specs.WorkedHeadroom.{headroomRows}
@@ -43,7 +43,7 @@ places-tested = tt
 -- ---- a finding is known by its code
 outcome-from : List ℕ → Outcome
 outcome-from code =
-    getD (writes (drop 1 code) ∷ passes ∷ fitsAt (getD code 1 0) ∷ refuses (getD code 1 0) (getD code 2 0) (getD code 3 0) ∷ []) (getD code 0 0) passes
+    getD (writes (drop 1 code) ∷ passes ∷ tells (getD code 1 0) ∷ refuses (getD code 1 0) (getD code 2 0) (getD code 3 0) ∷ []) (getD code 0 0) passes
 
 finding-from : List ℕ → Finding
 finding-from code =
@@ -57,7 +57,7 @@ finding-back : (f : Finding) → finding-from (findingCode f) ≡ f
 unfolding finding-from outcome-from
 finding-back (comesTo (writes text)) = refl
 finding-back (comesTo passes) = refl
-finding-back (comesTo (fitsAt l)) = refl
+finding-back (comesTo (tells l)) = refl
 finding-back (comesTo (refuses n f p)) = refl
 finding-back (prints text) = refl
 finding-back (scaleAndLevel s l) = refl

@@ -19,7 +19,7 @@ use Rattle.rows.specs.Rows.{Reading, read, refused}
 use Rattle.text.specs.Files.{readText, circuitContext}
 use Rattle.text.proofs.FileLaws.{FileBack, file-read-written}
 use Rattle.services.specs.declared.Reply.{Reply}
-use Rattle.services.specs.Outcomes.{Outcome, fitsAt, refuses, replyOf}
+use Rattle.services.specs.Outcomes.{Outcome, tells, refuses, replyOf}
 use Rattle.services.specs.Calls.{answered, onceRead, leastOutcome}
 use Rattle.services.specs.Promises as Promises
 use Rattle.services.specs.Promises.{OnceRead, Fits, Least, NoneFits, LeastComesTo, LeastPromise}
@@ -34,7 +34,7 @@ circuit-named p f = ap (λ (b : Bool). cond b 0 1) (ne-eqb p 0 f)
 -- ---- what the service comes to
 data LeastCase (circuit : Bytes) : Outcome → Type 0 where
   unread : (n p : ℕ) → readText circuitContext circuit ≡ refused n p → LeastCase circuit (refuses n 1 p)
-  found : (f : File) (l : ℕ) → readText circuitContext circuit ≡ read f → leastLevel f ≡ Level l → LeastCase circuit (fitsAt l)
+  found : (f : File) (l : ℕ) → readText circuitContext circuit ≡ read f → leastLevel f ≡ Level l → LeastCase circuit (tells l)
   few : (f : File) (p : ℕ) → readText circuitContext circuit ≡ read f → leastLevel f ≡ Refused 6 p → LeastCase circuit (refuses 6 (answerFile 1 (Refused 6 p)) p)
 
 module _ (circuit : Bytes) where

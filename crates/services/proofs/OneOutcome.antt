@@ -20,7 +20,7 @@ use Rattle.model.specs.Broken.{ruleTests, FirstBroken}
 use Rattle.model.specs.Demands.{Schedulable}
 use Rattle.model.proofs.Tests.{below-or-not}
 use Rattle.text.specs.Files.{readText, circuitContext, scheduleContext, eraseContext, fileText}
-use Rattle.services.specs.Outcomes.{Outcome, writes, fitsAt, refuses}
+use Rattle.services.specs.Outcomes.{Outcome, writes, tells, refuses}
 use Rattle.services.specs.Promises as Promises
 use Rattle.services.specs.Promises.{OnceRead, unread, is-read, TooFew, Fits, PlanComesTo, TextsDifferAt, Verdict, keeps-rules, other-circuit, breaks-rule}
 use Rattle.services.specs.Promises.{EraseComesTo, Least, LeastComesTo}
@@ -91,7 +91,7 @@ pub one-level : (circuit : Bytes) → One (OnceRead (readText circuitContext cir
 one-level circuit = one-read (readText circuitContext circuit) 1 LeastComesTo once
   where
     once : (f : File) → readText circuitContext circuit ≡ read f → One (LeastComesTo f)
-    once f e o q (Promises.fits-from l x) (Promises.fits-from m y) = ap fitsAt (least-level x y)
+    once f e o q (Promises.fits-from l x) (Promises.fits-from m y) = ap tells (least-level x y)
     once f e o q (Promises.fits-from l x) (Promises.too-few r t) = absurd (t .none-fits l (x .low) (x .high) (least-fits x))
     once f e o q (Promises.too-few p s) (Promises.fits-from m y) = absurd (s .none-fits m (y .low) (y .high) (least-fits y))
     once f e o q (Promises.too-few p s) (Promises.too-few r t) = ap (refuses 6 1) (too-few-place (s .at-sixty) (t .at-sixty))

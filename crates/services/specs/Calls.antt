@@ -19,12 +19,12 @@ use Rattle.rows.specs.Rows.{placeOf, Reading, read, refused}
 use Rattle.text.specs.Files.{readText, circuitContext, scheduleContext, eraseContext, fileText}
 use Rattle.listings.specs.Listings.{readListing}
 use Rattle.listings.specs.Held.{heldReading, isDownscale, heldAnswer, foundScales, convertHeld}
-use Rattle.services.specs.Outcomes.{Outcome, writes, passes, fitsAt, refuses}
+use Rattle.services.specs.Outcomes.{Outcome, writes, passes, tells, refuses}
 
 -- the answer of a service on files that were read; the file is the one whose line is at fault
 abbrev pub answered : ℕ → Answer → Outcome
 answered file Done = passes
-answered file (Level l) = fitsAt l
+answered file (Level l) = tells l
 answered file (Refused n p) = refuses n (answerFile file (Refused n p)) p
 
 -- what follows once a file is read, the file of this number; else its refusal

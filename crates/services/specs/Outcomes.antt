@@ -14,8 +14,8 @@ pub data Outcome : Type 0 where
   writes : Bytes → Outcome
   -- a schedule that is passed
   passes : Outcome
-  -- a least top level
-  fitsAt : ℕ → Outcome
+  -- a number: a least top level; document 02, Job 7: an answer or a count
+  tells : ℕ → Outcome
   -- number, file and place
   refuses : ℕ → ℕ → ℕ → Outcome
 
@@ -23,14 +23,14 @@ pub data Outcome : Type 0 where
 abbrev pub lent : ℕ → Outcome → Outcome
 lent room (writes text) = cond (leb (length text) room) (writes text) (refuses 13 0 0)
 lent room passes = passes
-lent room (fitsAt l) = fitsAt l
+lent room (tells n) = tells n
 lent room (refuses n f p) = refuses n f p
 
 -- the reply
 abbrev pub replyOf : Outcome → Reply
 replyOf (writes text) = record { number = 0; file = 0; place = 0; length = length text }
 replyOf passes = record { number = 0; file = 0; place = 0; length = 0 }
-replyOf (fitsAt l) = record { number = 0; file = 0; place = 0; length = l }
+replyOf (tells n) = record { number = 0; file = 0; place = 0; length = n }
 replyOf (refuses n f p) = record { number = n; file = f; place = p; length = 0 }
 
 -- the lent bytes: a refused call "has written no byte into the buffers lent to it"; "On success the bytes past the result's length are as
@@ -38,7 +38,7 @@ replyOf (refuses n f p) = record { number = n; file = f; place = p; length = 0 }
 abbrev pub bytesAfter : Outcome → Bytes → Bytes
 bytesAfter (writes text) out = text ++ drop (length text) out
 bytesAfter passes out = out
-bytesAfter (fitsAt l) out = out
+bytesAfter (tells n) out = out
 bytesAfter (refuses n f p) out = out
 
 -- a call that comes to this outcome with the bytes `out` lent to it replies r and leaves the bytes `after`

@@ -8,7 +8,7 @@ use Rattle.fields.specs.Pieces.{Bytes}
 use Rattle.rows.specs.Forms.{saidText}
 use Rattle.rows.specs.Lines.{textOf}
 use Rattle.model.specs.Words.{ascii}
-use Rattle.services.specs.Outcomes.{Outcome, writes, passes, fitsAt, refuses}
+use Rattle.services.specs.Outcomes.{Outcome, writes, passes, tells, refuses}
 use Rattle.services.specs.Calls.{planOutcome}
 
 -- "A program reads a circuit on standard input and prints the schedule, or one line of `refused`, number and place, tab-parted and closed
@@ -19,7 +19,7 @@ refusedLine n p = textOf (saidText (ascii "refused") (pos n ∷ pos p ∷ []) �
 abbrev pub printed : Outcome → Bytes
 printed (writes text) = text
 printed passes = []
-printed (fitsAt l) = []
+printed (tells l) = []
 printed (refuses n f p) = refusedLine n p
 
 abbrev pub programText : Bytes → Bytes

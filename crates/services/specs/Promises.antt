@@ -24,7 +24,7 @@ use Rattle.model.specs.Demands.{Schedulable, Exact, isCiphertextLine, BestAt}
 use Rattle.text.specs.declared.Context.{Context}
 use Rattle.text.specs.Files.{readText, fewEnough, circuitContext, scheduleContext, eraseContext, fileText}
 use Rattle.services.specs.declared.Reply.{Reply}
-use Rattle.services.specs.Outcomes.{Outcome, writes, passes, fitsAt, refuses, replyOf, Replied}
+use Rattle.services.specs.Outcomes.{Outcome, writes, passes, tells, refuses, replyOf, Replied}
 
 -- the one outcome to which the cases lead
 pub record TheOutcome (ComesTo : Outcome → Type 0) : Type 0 where
@@ -213,7 +213,7 @@ pub record NoneFits (file : File) (place : ℕ) : Type 0 where
   pub at-sixty : TooFew (withTop (file .header) 60) (file .lines) place
 
 pub data LeastComesTo (file : File) : Outcome → Type 0 where
-  fits-from : (l : ℕ) → Least file l → LeastComesTo file (fitsAt l)
+  fits-from : (l : ℕ) → Least file l → LeastComesTo file (tells l)
   too-few : (place : ℕ) → NoneFits file place → LeastComesTo file (refuses 6 1 place)
 
 pub record LeastPromise (circuit : Bytes) (r : Reply) : Type 0 where

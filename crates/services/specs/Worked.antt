@@ -24,7 +24,7 @@ use Rattle.model.specs.Services.{keptLines}
 use Rattle.model.specs.Answers.{checkMachine}
 use Rattle.text.specs.Files.{readText, scheduleContext}
 use Rattle.services.specs.declared.Reply.{Reply}
-use Rattle.services.specs.Outcomes.{Outcome, writes, passes, fitsAt, refuses, lent, replyOf}
+use Rattle.services.specs.Outcomes.{Outcome, writes, passes, tells, refuses, lent, replyOf}
 use Rattle.services.specs.Calls.{planOutcome, checkOutcome, eraseOutcome, leastOutcome, fromRisingOutcome}
 use Rattle.services.specs.Program.{programText}
 
@@ -124,7 +124,7 @@ findingOf reserves input = onLines (readText scheduleContext input)
 abbrev pub findingCode : Finding → List ℕ
 findingCode (comesTo (writes text)) = 0 ∷ text
 findingCode (comesTo passes) = 1 ∷ []
-findingCode (comesTo (fitsAt l)) = 2 ∷ l ∷ []
+findingCode (comesTo (tells l)) = 2 ∷ l ∷ []
 findingCode (comesTo (refuses n f p)) = 3 ∷ n ∷ f ∷ p ∷ []
 findingCode (prints text) = 4 ∷ text
 findingCode (scaleAndLevel s l) = 5 ∷ s ∷ l ∷ []
@@ -187,7 +187,7 @@ abbrev pub table : List Row
 table =
     -- "Header only: header only back; least level 1."
     row "circuit 60 20 1\n" plan (written "schedule 60 20 1\n")
-    ∷ row "circuit 60 20 1\n" least (comesTo (fitsAt 1))
+    ∷ row "circuit 60 20 1\n" least (comesTo (tells 1))
     -- "x² at L = 1: scale 40, level 1. x⁴ by two squarings, L = 1: 6 at place 4."
     ∷ row "circuit 60 20 1\nin\nmul 0 0\n" plan (written "schedule 60 20 1\nin\nmul 0 0\n")
     ∷ row "schedule 60 20 1\nin\nmul 0 0\n" (scaleOf 1) (scaleAndLevel 40 1)
@@ -197,7 +197,7 @@ table =
     (written "schedule 60 20 2\nin\nmul 0 0\nmul 1 1\nrs 2 1\nrs 2 1\nmul 3 4\n")
     ∷ row "schedule 60 20 2\nin\nmul 0 0\nmul 1 1\nrs 2 1\nrs 2 1\nmul 3 4\n" (scaleOf 5) (scaleAndLevel 40 1)
     ∷ row sixteenth plan (refusedAt 6 1 6)
-    ∷ row sixteenth least (comesTo (fitsAt 3))
+    ∷ row sixteenth least (comesTo (tells 3))
     -- "`rs` by 1 at scale 80 gives 20; at 79 refused 10."
     ∷ row "schedule 60 20 2\nin\nus 0 60\nrs 1 1\n" (scaleOf 1) (scaleAndLevel 80 2)
     ∷ row "schedule 60 20 2\nin\nus 0 60\nrs 1 1\n" (scaleOf 2) (scaleAndLevel 20 1)
@@ -294,7 +294,7 @@ table =
     ∷ row "circuit 60 20 2\nconst 4294967295\n" plan (written "schedule 60 20 2\nconst 4294967295\n")
     ∷ row "schedule 60 20 2\nconst 4294967295\n" (checkAgainst "circuit 60 20 2\nconst 4294967295\n") (comesTo passes)
     ∷ row "schedule 60 20 2\nconst 4294967295\n" erase (written "circuit 60 20 2\nconst 4294967295\n")
-    ∷ row "circuit 60 20 2\nin\nconst 4294967295\nmul 0 1\n" least (comesTo (fitsAt 1))
+    ∷ row "circuit 60 20 2\nin\nconst 4294967295\nmul 0 1\n" least (comesTo (tells 1))
     ∷ row "circuit 60 20 2\nconst 4294967295\n" (replyTo (withRoom 34 plan)) (gives 0 0 0 34)
     ∷ row "circuit 60 20 2\nconst 4294967295\n" (withRoom 33 plan) (refusedAt 13 0 0)
     ∷ row "circuit 60 20 2\nconst 4294967296\n" plan (refusedAt 11 1 2)

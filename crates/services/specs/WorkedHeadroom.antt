@@ -1,7 +1,7 @@
 -- Document 02, Job 3: the headroom worked by hand, a row for each clause, on whole files; below half the modulus: `model` `Worked.sizes`.
 use mathlib.Core.List.{List, [], _∷_}
 use Prim.Native.String.{String}
-use Rattle.services.specs.Outcomes.{passes, fitsAt}
+use Rattle.services.specs.Outcomes.{passes, tells}
 use Rattle.services.specs.Worked.{Row, row, plan, least, checkAgainst, erase, fromRising, withRoom, replyTo, program, scaleOf}
 use Rattle.services.specs.Worked.{comesTo, gives, prints, scaleAndLevel, shown, written, refusedAt, append}
 
@@ -107,16 +107,16 @@ headroomRows =
     ∷ row "circuit 60 20 2 0\n" program (prints (shown "refused 2 1\n"))
     ∷ row "circuit 60 20 2 \n" program (prints (shown "refused 1 1\n"))
     -- each level tried has H. x⁴: level 2 leaves 40, level 3 leaves 100; `in` alone: 60·L − 20; F = 1, W = 60: level 60 leaves 0
-    ∷ row "circuit 60 20 1 40\nin\nmul 0 0\nmul 1 1\n" least (comesTo (fitsAt 2))
-    ∷ row "circuit 60 20 1 41\nin\nmul 0 0\nmul 1 1\n" least (comesTo (fitsAt 3))
-    ∷ row "circuit 60 20 60 40\nin\n" least (comesTo (fitsAt 1))
-    ∷ row "circuit 60 20 60 41\nin\n" least (comesTo (fitsAt 2))
-    ∷ row "circuit 1 60 1\nin\n" least (comesTo (fitsAt 60))
+    ∷ row "circuit 60 20 1 40\nin\nmul 0 0\nmul 1 1\n" least (comesTo (tells 2))
+    ∷ row "circuit 60 20 1 41\nin\nmul 0 0\nmul 1 1\n" least (comesTo (tells 3))
+    ∷ row "circuit 60 20 60 40\nin\n" least (comesTo (tells 1))
+    ∷ row "circuit 60 20 60 41\nin\n" least (comesTo (tells 2))
+    ∷ row "circuit 1 60 1\nin\n" least (comesTo (tells 60))
     ∷ row "circuit 1 60 1 1\nin\n" least (refusedAt 6 1 2)
     -- F = 1, W = 30, level 60: in 30, mul 30 + 30 − 60 = 0; and a bare header has no line to leave anything
-    ∷ row "circuit 1 30 1\nin\nneg 0\nmul 0 1\n" least (comesTo (fitsAt 60))
+    ∷ row "circuit 1 30 1\nin\nneg 0\nmul 0 1\n" least (comesTo (tells 60))
     ∷ row "circuit 1 30 1 1\nin\nneg 0\nmul 0 1\n" least (refusedAt 6 1 4)
-    ∷ row "circuit 60 20 1 60\n" least (comesTo (fitsAt 1))
+    ∷ row "circuit 60 20 1 60\n" least (comesTo (tells 1))
     -- erasing asks no rules
     ∷ row "schedule 60 20 1 60\nin\nus 0 7\n" erase (written "circuit 60 20 1 60\nin\n")
     -- a plan's text of 23 bytes, an erasure's of 22 and a schedule's of 23, each three more than without H

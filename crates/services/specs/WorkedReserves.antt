@@ -4,7 +4,7 @@
 use Prim.Native.Nat.{ℕ}
 use Prim.Native.String.{String}
 use mathlib.Core.List.{List, [], _∷_, _++_}
-use Rattle.services.specs.Outcomes.{passes, fitsAt}
+use Rattle.services.specs.Outcomes.{passes, tells}
 use Rattle.services.specs.Worked.{Row, row, plan, least, checkAgainst, reserves, withRoom, replyTo}
 use Rattle.services.specs.Worked.{comesTo, gives, leaves, written, refusedAt, append}
 
@@ -119,16 +119,16 @@ abbrev pub higherRows : List Row
 higherRows =
     -- x⁸: 6 at L = 1, at x⁴; from the least level, 2, it is planned at each, here at 2, 3, 4, 30, 59 and 60; 61 is no top level. The least level
     -- is the same whatever the header's own.
-    row (eighth "1") plan (refusedAt 6 1 4) ∷ row (eighth "1") least (comesTo (fitsAt 2)) ∷ row (eighth "60") least (comesTo (fitsAt 2))
+    row (eighth "1") plan (refusedAt 6 1 4) ∷ row (eighth "1") least (comesTo (tells 2)) ∷ row (eighth "60") least (comesTo (tells 2))
     ∷ planned (eighth "2") ∷ planned (eighth "3") ∷ planned (eighth "4") ∷ planned (eighth "30") ∷ planned (eighth "59") ∷ planned (eighth "60")
     ∷ row (eighth "61") plan (refusedAt 2 1 1)
     -- with H = 21, one bit more than x⁸ has at L = 2
-    ∷ row (eighth "2 21") plan (refusedAt 6 1 5) ∷ row (eighth "2 21") least (comesTo (fitsAt 3))
+    ∷ row (eighth "2 21") plan (refusedAt 6 1 5) ∷ row (eighth "2 21") least (comesTo (tells 3))
     ∷ planned (eighth "3 21") ∷ planned (eighth "4 21") ∷ planned (eighth "60 21")
     -- the least level 1, and 60 itself: an input with W = 20, and one with F = 1 and W = 60
-    ∷ row "circuit 60 20 60\nin\n" least (comesTo (fitsAt 1))
+    ∷ row "circuit 60 20 60\nin\n" least (comesTo (tells 1))
     ∷ planned "circuit 60 20 1\nin\n" ∷ planned "circuit 60 20 30\nin\n" ∷ planned "circuit 60 20 60\nin\n"
-    ∷ row "circuit 1 60 59\nin\n" plan (refusedAt 6 1 2) ∷ row "circuit 1 60 59\nin\n" least (comesTo (fitsAt 60))
+    ∷ row "circuit 1 60 59\nin\n" plan (refusedAt 6 1 2) ∷ row "circuit 1 60 59\nin\n" least (comesTo (tells 60))
     ∷ planned "circuit 1 60 60\nin\n"
     ∷ []
 

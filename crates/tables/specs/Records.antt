@@ -16,7 +16,7 @@ use Rattle.model.specs.Words.{words, hasWord}
 use Rattle.model.specs.Numbering.{order, sameWord}
 use Rattle.model.specs.Files as Files
 use Rattle.model.specs.Files.{said, nth, wordOf}
-use Rattle.text.specs.Tables.{Table}
+use Rattle.text.specs.Tables.{Table, TableFormed}
 
 -- a rotation's amount is held as a number that is not below zero: 32,768 more
 unfoldable pub amountFrom : ℕ → ℤ
@@ -89,3 +89,8 @@ freeRecords = replicate 1792 (replicate 4 0)
 -- the table of these records, of which so many are used
 abbrev pub held : Header → List (List ℕ) → ℕ → Table
 held header records count = record { header = header; lines = linesOf records; count = count }
+
+-- the records of a well-formed schedule, under some header
+pub record IsSchedule (records : List (List ℕ)) (count : ℕ) : Type 0 where
+  pub header : Header
+  pub formed : TableFormed Schedule (held header records count)

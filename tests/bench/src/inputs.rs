@@ -126,3 +126,18 @@ pub fn long_schedule(lines: usize) -> (Vec<u8>, Vec<u8>) {
     }
     (format!("circuit\t60\t20\t2\n{lines_kept}").into_bytes(), schedule.into_bytes())
 }
+
+/// A schedule of so many lines with the most live ciphertexts: two thirds are inputs, and each other line names two that are named nowhere else.
+pub fn sums(lines: usize) -> Vec<u8> {
+    let inputs = lines * 2 / 3;
+    let mut text = format!("schedule 60 20 2/{}", "in/".repeat(inputs));
+    for i in 0..lines - inputs {
+        text.push_str(&format!("add {} {}/", 2 * i % inputs, (2 * i + 1) % inputs));
+    }
+    bytes(&text)
+}
+
+/// A constant and so many encodings of it, the longest lines but for the constants of ten digits.
+pub fn encodings(count: usize) -> Vec<u8> {
+    bytes(&format!("schedule 60 60 60/const 4294967295/{}", "enc 0 3600 60/".repeat(count)))
+}

@@ -15,7 +15,7 @@ use std::time::Instant;
 
 const ROOM: usize = 131_072;
 /// There are at least so many calls, so that no run passes on missing inputs.
-const LEAST_CALLS: usize = 171;
+const LEAST_CALLS: usize = 271;
 /// A measurement is the shortest of so many runs, each of about so many nanoseconds: a short run is seldom disturbed.
 const RUNS: usize = 150;
 const RUN_TIME: f64 = 150_000.0;
@@ -50,6 +50,10 @@ fn by_rust(call: &Call, out: &mut [u8]) -> Answer {
         Service::FromRising => services::from_rising(&call.first, out).into(),
         Service::ToRising => services::to_rising(&call.first, out).into(),
         Service::Quote => services::quote(&call.first).into(),
+        Service::MayDrop { value, line } => services::may_drop(&call.first, value, line).into(),
+        Service::LiveAfter { line } => services::live_after(&call.first, line).into(),
+        Service::LivePeak => services::live_peak(&call.first).into(),
+        Service::Live => services::live(&call.first, out).into(),
     }
 }
 
@@ -110,6 +114,19 @@ fn calls_of_conversion(input: &Conversion) -> Vec<(Call, usize)> {
     both.into_iter().filter(is_measured).map(call).collect()
 }
 
+/// The four services of live ciphertexts. The first value is asked about, and the line in the middle.
+fn calls_of_live(schedule: &[u8]) -> Vec<(Call, usize)> {
+    let lines = lines_of(schedule);
+    let line = lines as u32 / 2;
+    let services = [
+        (Service::MayDrop { value: 0, line }, "may drop"),
+        (Service::LiveAfter { line }, "live after"),
+        (Service::LivePeak, "live peak"),
+        (Service::Live, "live"),
+    ];
+    services.map(|(service, name)| (Call { service, name, first: schedule.to_vec(), second: Vec::new() }, lines)).into()
+}
+
 /// What a service of the Rust version writes; none where it refuses.
 fn written(service: fn(&[u8], &mut [u8]) -> Reply, text: &[u8]) -> Option<Vec<u8>> {
     let mut out = vec![0; ROOM];
@@ -156,6 +173,24 @@ fn other_conversions() -> Vec<Conversion> {
     }
     list.push(turned("a header alone".into(), inputs::bytes("schedule 60 20 2/")).expect("a file"));
     list.push(listing("a header and one ds", inputs::bytes("rising 60 20 2/in/ds 0/")));
+    list
+}
+
+/// Schedules whose live ciphertexts are asked for: the examples' plans, full files, the longest lines, files that are refused, and small ones. In a header
+/// alone the first value is lacking.
+fn live_schedules(folder: &Path) -> Vec<(String, Vec<u8>)> {
+    let plans = inputs::examples(folder).into_iter().map(|input| (input.name, input.schedule));
+    let mut list: Vec<(String, Vec<u8>)> = plans.collect();
+    for lines in [112, 224, 448, 896, 1792] {
+        list.push((format!("schedule of {lines} lines"), inputs::long_schedule(lines).1));
+        list.push((format!("sums, {lines} lines"), inputs::sums(lines)));
+    }
+    list.push(("with H, schedule of 1792 lines".into(), inputs::with_headroom(&inputs::long_schedule(1792).1)));
+    list.push(("1791 encodings".into(), inputs::encodings(1791)));
+    list.push(("1792 constants".into(), inputs::bytes(&format!("schedule 60 60 60 60/{}", "const 4294967295/".repeat(1792)))));
+    list.push(("a damaged last line".into(), [inputs::long_schedule(1791).1, inputs::bytes("x/")].concat()));
+    list.push(("a header alone".into(), inputs::bytes("schedule 60 20 2/")));
+    list.push(("an empty file".into(), Vec::new()));
     list
 }
 
@@ -210,6 +245,11 @@ fn rows(folder: &Path, runs: usize) -> Vec<Row> {
     for input in example_conversions(folder).into_iter().chain(other_conversions()) {
         for (call, lines) in calls_of_conversion(&input) {
             rows.push(measure(&call, &input.name, lines, runs));
+        }
+    }
+    for (name, schedule) in live_schedules(folder) {
+        for (call, lines) in calls_of_live(&schedule) {
+            rows.push(measure(&call, &name, lines, runs));
         }
     }
     assert!(rows.len() >= LEAST_CALLS, "only {} calls", rows.len());

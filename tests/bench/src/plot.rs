@@ -1,5 +1,5 @@
 //! The growth of each service's time with the number of lines, as an SVG: the archive, the Rust version and the yardstick in C. Circuits and schedules have
-//! a panel each, and each curve is of one family of files, which differ in their length alone.
+//! a panel each, live ciphertexts another one, and each curve is of one family of files, which differ in their length alone.
 
 use crate::Row;
 
@@ -16,7 +16,7 @@ struct Panel {
     left: f64,
 }
 
-const PANELS: [Panel; 2] = [
+const PANELS: [Panel; 3] = [
     Panel {
         title: "Circuits",
         family: "circuit of",
@@ -24,7 +24,14 @@ const PANELS: [Panel; 2] = [
         left: 60.0,
     },
     Panel { title: "Schedules", family: "schedule of", services: &[("check", "#b07a1e"), ("erase", "#2e7d4f")], left: 450.0 },
+    Panel {
+        title: "Live ciphertexts",
+        family: "sums,",
+        services: &[("live", "#2b5c9e"), ("live peak", "#7a4fa3"), ("live after", "#b07a1e"), ("may drop", "#2e7d4f")],
+        left: 840.0,
+    },
 ];
+const PICTURE_WIDTH: f64 = 1190.0;
 
 /// An axis from 0 to a whole number of round steps.
 struct Axis {
@@ -127,10 +134,10 @@ fn legend() -> String {
 
 pub fn growth(rows: &[Row]) -> String {
     let title = "Time of a call by the length of its file";
-    let mut text = String::from(
-        "<svg xmlns=\"http://www.w3.org/2000/svg\" viewBox=\"0 0 800 460\" width=\"800\" height=\"460\" font-family=\"sans-serif\" font-size=\"13\" fill=\"#222\">\n",
+    let mut text = format!(
+        "<svg xmlns=\"http://www.w3.org/2000/svg\" viewBox=\"0 0 {PICTURE_WIDTH} 460\" width=\"{PICTURE_WIDTH}\" height=\"460\" font-family=\"sans-serif\" font-size=\"13\" fill=\"#222\">\n",
     );
-    text += &format!("<title>{title}</title>\n<rect width=\"800\" height=\"460\" fill=\"#ffffff\"/>\n");
+    text += &format!("<title>{title}</title>\n<rect width=\"{PICTURE_WIDTH}\" height=\"460\" fill=\"#ffffff\"/>\n");
     text += &format!("<text x=\"20\" y=\"30\" font-size=\"16\" font-weight=\"bold\">{title}</text>\n");
     text += &legend();
     for one in &PANELS {

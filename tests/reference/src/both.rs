@@ -4,7 +4,8 @@
 use crate::coverage::Coverage;
 use crate::library::{self, Answer, Lent, Library, Service};
 use crate::random::Random;
-use crate::services::{self, QuoteReply, Reply};
+use crate::services::{self, QuoteReply, Reply, LIVE_VALUE_BYTES};
+use crate::text::SCHEDULE_LINES;
 
 /// Room that holds every result.
 pub const AMPLE: usize = 32_768;
@@ -12,6 +13,11 @@ pub const AMPLE: usize = 32_768;
 /// Room for what a schedule or listing is erased or converted to: a `ds` becomes two lines, each at most twice as long.
 pub fn ample_for(text: &[u8]) -> usize {
     AMPLE.min(4 * text.len() + 64)
+}
+
+/// Room for the entries and counts of a schedule, with some bytes to spare: each line but the header has three bytes at least.
+pub fn ample_for_live(schedule: &[u8]) -> usize {
+    LIVE_VALUE_BYTES * SCHEDULE_LINES.min(schedule.len() / 3) + 16
 }
 
 const GUARD: usize = 32;
@@ -47,6 +53,7 @@ pub struct Both {
     pub trips: Trips,
     pub reserves: Reserves,
     pub levels: Levels,
+    pub scans: Scans,
 }
 
 /// Exhaustive searches, by what they came to.
@@ -164,12 +171,33 @@ impl Levels {
     }
 }
 
+/// What was found to be equal to a scan of all later lines.
+#[derive(Clone, Copy, Default)]
+pub struct Scans {
+    pub entries: u64,
+    pub counts: u64,
+    pub peaks: u64,
+    /// Answers about a value and a line.
+    pub yes: u64,
+    pub no: u64,
+}
+
+impl Scans {
+    pub fn add(&mut self, other: &Scans) {
+        self.entries += other.entries;
+        self.counts += other.counts;
+        self.peaks += other.peaks;
+        self.yes += other.yes;
+        self.no += other.no;
+    }
+}
+
 impl Both {
     /// `show` prints every call and the replies.
     pub fn new(random: Random, show: bool) -> Both {
         let (searches, runs, halves, trips) = (Searches::default(), Runs::default(), Halves::default(), Trips::default());
-        let (reserves, levels) = (Reserves::default(), Levels::default());
-        Both { random, show, calls: 0, coverage: Coverage::default(), searches, runs, halves, trips, reserves, levels }
+        let (reserves, levels, scans) = (Reserves::default(), Levels::default(), Scans::default());
+        Both { random, show, calls: 0, coverage: Coverage::default(), searches, runs, halves, trips, reserves, levels, scans }
     }
 
     pub fn plan(&mut self, circuit: &[u8], room: usize) -> Result<Outcome, String> {
@@ -203,6 +231,24 @@ impl Both {
         }
     }
 
+    pub fn may_drop(&mut self, schedule: &[u8], value: u32, line: u32) -> Result<Reply, String> {
+        let service = Service::MayDrop { value, line };
+        self.call(Call { service, first: schedule, second: &[], room: 0 }).map(|outcome| outcome.reply)
+    }
+
+    pub fn live_after(&mut self, schedule: &[u8], line: u32) -> Result<Reply, String> {
+        let service = Service::LiveAfter { line };
+        self.call(Call { service, first: schedule, second: &[], room: 0 }).map(|outcome| outcome.reply)
+    }
+
+    pub fn live_peak(&mut self, schedule: &[u8]) -> Result<Reply, String> {
+        self.call(Call { service: Service::LivePeak, first: schedule, second: &[], room: 0 }).map(|outcome| outcome.reply)
+    }
+
+    pub fn live(&mut self, schedule: &[u8], room: usize) -> Result<Outcome, String> {
+        self.call(Call { service: Service::Live, first: schedule, second: &[], room })
+    }
+
     fn call(&mut self, call: Call) -> Result<Outcome, String> {
         match self.compared(call)? {
             (Answer::Reply(reply), written) => Ok(Outcome { reply, written }),
@@ -226,7 +272,7 @@ impl Both {
             }
         }
         let length = match answer {
-            Answer::Reply(reply) if call.room > 0 => reply.length as usize,
+            Answer::Reply(reply) if call.service.writes() => reply.length as usize,
             _ => 0,
         };
         let written = expected.bytes()[..length].to_vec();
@@ -267,6 +313,10 @@ fn reference_call(call: Call, out: &mut [u8]) -> Answer {
         Service::FromRising => services::from_rising(call.first, out).into(),
         Service::ToRising => services::to_rising(call.first, out).into(),
         Service::Quote => services::quote(call.first).into(),
+        Service::MayDrop { value, line } => services::may_drop(call.first, value, line).into(),
+        Service::LiveAfter { line } => services::live_after(call.first, line).into(),
+        Service::LivePeak => services::live_peak(call.first).into(),
+        Service::Live => services::live(call.first, out).into(),
     }
 }
 

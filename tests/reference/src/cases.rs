@@ -6,4 +6,5 @@ pub mod hand;
 mod headroom;
 pub mod limits;
 pub mod listings;
+pub mod live;
 mod prices;

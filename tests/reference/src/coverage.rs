@@ -1,6 +1,8 @@
 //! What the calls of a run have covered: every reply, every conversion and every limit on both sides, at each file that can show it. A run
 //! that covers less than is asked fails, so that no generator passes by making nothing.
 
+mod live;
+
 use crate::both::Call;
 use crate::cases::damage::POWERS;
 use crate::check::{self, Standing};
@@ -22,19 +24,40 @@ enum Place {
     Quote,
     FromRising,
     ToRising,
+    MayDrop,
+    LiveAfter,
+    LivePeak,
+    Live,
 }
 
 impl Place {
+    /// Where the first file of a service is counted.
+    fn of(service: Service) -> Place {
+        match service {
+            Service::Plan => Place::Plan,
+            Service::Check => Place::CheckCircuit,
+            Service::Erase => Place::Erase,
+            Service::LeastLevel => Place::LeastLevel,
+            Service::Quote => Place::Quote,
+            Service::FromRising => Place::FromRising,
+            Service::ToRising => Place::ToRising,
+            Service::MayDrop { .. } => Place::MayDrop,
+            Service::LiveAfter { .. } => Place::LiveAfter,
+            Service::LivePeak => Place::LivePeak,
+            Service::Live => Place::Live,
+        }
+    }
+
     fn header_word(self) -> &'static [u8] {
         match self {
             Place::Plan | Place::CheckCircuit | Place::LeastLevel | Place::Quote => b"circuit",
-            Place::CheckSchedule | Place::Erase | Place::ToRising => b"schedule",
             Place::FromRising => b"rising",
+            _ => b"schedule",
         }
     }
 }
 
-const PLACES: [(Place, &str); 8] = [
+const PLACES: [(Place, &str); 12] = [
     (Place::Plan, "plan"),
     (Place::CheckCircuit, "check, circuit"),
     (Place::CheckSchedule, "check, schedule"),
@@ -43,6 +66,10 @@ const PLACES: [(Place, &str); 8] = [
     (Place::Quote, "quote"),
     (Place::FromRising, "from rising"),
     (Place::ToRising, "to rising"),
+    (Place::MayDrop, "may drop"),
+    (Place::LiveAfter, "live after"),
+    (Place::LivePeak, "live peak"),
+    (Place::Live, "live"),
 ];
 
 const ALL: &[Place] = &[
@@ -54,19 +81,42 @@ const ALL: &[Place] = &[
     Place::Quote,
     Place::FromRising,
     Place::ToRising,
+    Place::MayDrop,
+    Place::LiveAfter,
+    Place::LivePeak,
+    Place::Live,
 ];
 const CIRCUITS: &[Place] = &[Place::Plan, Place::CheckCircuit, Place::LeastLevel, Place::Quote];
-const SCHEDULES: &[Place] = &[Place::CheckSchedule, Place::Erase, Place::ToRising];
+const SCHEDULES: &[Place] =
+    &[Place::CheckSchedule, Place::Erase, Place::ToRising, Place::MayDrop, Place::LiveAfter, Place::LivePeak, Place::Live];
 const LISTINGS: &[Place] = &[Place::FromRising];
 /// Whose best reserves are worked out.
 const PLANNED: &[Place] = &[Place::Plan, Place::LeastLevel, Place::Quote];
 /// What has a schedule's grammar.
-const LONG: &[Place] = &[Place::CheckSchedule, Place::Erase, Place::FromRising, Place::ToRising];
+const LONG: &[Place] = &[
+    Place::CheckSchedule,
+    Place::Erase,
+    Place::FromRising,
+    Place::ToRising,
+    Place::MayDrop,
+    Place::LiveAfter,
+    Place::LivePeak,
+    Place::Live,
+];
 const RULED: &[Place] = &[Place::CheckSchedule, Place::FromRising, Place::ToRising];
 /// Where a 257th kept line is refused.
 const KEEPING: &[Place] = &[Place::Erase, Place::FromRising, Place::ToRising];
-const WRITING: &[Place] = &[Place::Plan, Place::Erase, Place::FromRising, Place::ToRising];
+const WRITING: &[Place] = &[Place::Plan, Place::Erase, Place::FromRising, Place::ToRising, Place::Live];
 const QUOTED: &[Place] = &[Place::Quote];
+/// Where any number of kept lines is read.
+const KEEPING_ALL: &[Place] = &[Place::CheckSchedule, Place::MayDrop, Place::LiveAfter, Place::LivePeak, Place::Live];
+/// What is asked with a line's number, and with a value's.
+const ASKED_BY_LINE: &[Place] = &[Place::MayDrop, Place::LiveAfter];
+const ASKED_BY_VALUE: &[Place] = &[Place::MayDrop];
+/// Where entries show, and where live counts do.
+const ENTRIES: &[Place] = &[Place::MayDrop, Place::Live];
+const COUNTS: &[Place] = &[Place::LiveAfter, Place::LivePeak, Place::Live];
+const ALL_AT_ONCE: &[Place] = &[Place::Live];
 
 /// What is asked for the rows of a class.
 #[derive(Clone, Copy, PartialEq, Eq)]
@@ -76,6 +126,7 @@ enum Class {
     Limit,
     Buffer,
     Price,
+    Live,
 }
 
 /// The least numbers of a run, for each class; 0 where a class is not asked for.
@@ -85,6 +136,7 @@ pub struct Asked {
     pub limits: u64,
     pub buffers: u64,
     pub prices: u64,
+    pub live: u64,
     /// Whether only planning is called.
     pub only_plan: bool,
 }
@@ -103,7 +155,17 @@ const fn reply(name: &'static str, places: &'static [Place]) -> Row {
 }
 
 const fn conversion(name: &'static str) -> Row {
-    let places = &[Place::Plan, Place::CheckSchedule, Place::Erase, Place::FromRising, Place::ToRising];
+    let places = &[
+        Place::Plan,
+        Place::CheckSchedule,
+        Place::Erase,
+        Place::FromRising,
+        Place::ToRising,
+        Place::MayDrop,
+        Place::LiveAfter,
+        Place::LivePeak,
+        Place::Live,
+    ];
     Row { name, class: Class::Conversion, sides: 1, places }
 }
 
@@ -126,8 +188,13 @@ const fn price(name: &'static str, sides: usize) -> Row {
     Row { name, class: Class::Price, sides, places: QUOTED }
 }
 
+/// An answer about a value or a line, or a way in which values are named.
+const fn live_row(name: &'static str, sides: usize, places: &'static [Place]) -> Row {
+    Row { name, class: Class::Live, sides, places }
+}
+
 /// Replies stand at their numbers; the other rows are named below.
-const ROWS: [Row; 106] = [
+const ROWS: [Row; 133] = [
     reply("success", ALL),
     reply("1 text not of the form", ALL),
     reply("2 header number", ALL),
@@ -167,7 +234,7 @@ const ROWS: [Row; 106] = [
     limit("ms by 60 | 61", LONG),
     limit("field of 11 | 12 digits", ALL),
     limit("4372 | 4373 circuit bytes", CIRCUITS),
-    limit("30485 | 30486 bytes", &[Place::CheckSchedule]),
+    limit("30485 | 30486 bytes", KEEPING_ALL),
     limit("const 65535, 65536 read", ALL),
     limit("12 by const, low | high", &[Place::CheckCircuit]),
     limit("header + 2^16 | + 2^32", ALL),
@@ -225,7 +292,7 @@ const ROWS: [Row; 106] = [
     price("price of ms by 1 | by more", 2),
     price("price at level 1 | at level 60", 2),
     price("price 0", 1),
-    limit("header alone, no H | with H", QUOTED),
+    limit("header alone, no H | with H", &[Place::Quote, Place::LivePeak, Place::Live]),
     limit("rs by 30 | ms by 59", QUOTED),
     limit("price 65535 | 65536", QUOTED),
     met("price of 4000000 or more", QUOTED),
@@ -234,6 +301,33 @@ const ROWS: [Row; 106] = [
     buffer("no H, room of bytes | one less", QUOTED),
     limit("6 | another in no room too", QUOTED),
     met("ms, us and rs of one operand", QUOTED),
+    reply("4 line or value lacking", ASKED_BY_LINE),
+    live_row("answer yes | no", 2, ASKED_BY_VALUE),
+    live_row("no: before its line | named later", 2, ASKED_BY_VALUE),
+    live_row("named: after entry | line before", 2, ASKED_BY_VALUE),
+    live_row("never named: own | line before", 2, ASKED_BY_VALUE),
+    live_row("of a ciphertext | of a const", 2, ASKED_BY_VALUE),
+    live_row("of an enc | of an out", 2, ASKED_BY_VALUE),
+    limit("value last | last + 1", ASKED_BY_VALUE),
+    limit("line last | last + 1", ASKED_BY_LINE),
+    limit("value 65535, 65536 lacking", ASKED_BY_VALUE),
+    limit("line 65535, 65536 lacking", ASKED_BY_LINE),
+    limit("value + 2^16 | + 2^31 lacking", ASKED_BY_VALUE),
+    limit("line + 2^16 | + 2^31 lacking", ASKED_BY_LINE),
+    limit("value alone, line alone lacking", ASKED_BY_VALUE),
+    limit("4294967295 lacking: value, line", ASKED_BY_VALUE),
+    limit("0 of a header, no H | with H", ASKED_BY_LINE),
+    limit("file refused first: 0 | 65536 up", ASKED_BY_LINE),
+    met("file refused in no room", ALL_AT_ONCE),
+    limit("256, 257 kept lines read", KEEPING_ALL),
+    limit("count 255, 256", COUNTS),
+    met("1194 live at once", COUNTS),
+    limit("entry 255, 256", ENTRIES),
+    limit("entry 1023, 1024", ENTRIES),
+    limit("entry 1790, 1791", ENTRIES),
+    live_row("named twice by one line | by two", 2, ALL_AT_ONCE),
+    live_row("named by out alone | by enc alone", 2, ALL_AT_ONCE),
+    live_row("never: ciphertext | const or enc", 2, ALL_AT_ONCE),
 ];
 
 const MS: usize = 15;
@@ -324,6 +418,34 @@ const HEADROOM_QUOTED_BUFFER: usize = 102;
 const QUOTED_BUFFER: usize = 103;
 const NO_ROOM: usize = 104;
 const ALL_CONVERSIONS: usize = 105;
+/// The rows of live ciphertexts.
+const LACKING: usize = 106;
+const ANSWER: usize = 107;
+const ANSWERED_NO: usize = 108;
+const ENTRY: usize = 109;
+const NEVER_NAMED: usize = 110;
+const OF_VALUE: usize = 111;
+const OF_OTHER: usize = 112;
+const LAST_VALUE: usize = 113;
+const LAST_LINE: usize = 114;
+const VALUE_SIXTEEN_BITS: usize = 115;
+const LINE_SIXTEEN_BITS: usize = 116;
+const VALUE_WRAP: usize = 117;
+const LINE_WRAP: usize = 118;
+const LACKING_ALONE: usize = 119;
+const LACKING_MOST: usize = 120;
+const LACKING_OF_HEADER: usize = 121;
+const FILE_FIRST: usize = 122;
+const FILE_BEFORE_ROOM: usize = 123;
+const KEPT_READ: usize = 124;
+const COUNT_BYTE: usize = 125;
+const MOST_LIVE: usize = 126;
+const ENTRY_BYTE: usize = 127;
+const ENTRY_TEN_BITS: usize = 128;
+const ENTRY_END: usize = 129;
+const NAMED: usize = 130;
+const NAMED_ALONE: usize = 131;
+const UNNAMED: usize = 132;
 
 /// The most lines, with the header, of the plans that are known, and a price that only the dearest of them reach.
 const KNOWN_LINES: u32 = 1273;
@@ -357,6 +479,11 @@ impl Default for Coverage {
 /// Whether a number is one that reading refuses with.
 fn is_reading(number: u32) -> bool {
     matches!(number, 1..=5 | 11)
+}
+
+/// Whether the caller's number is refused, after the whole file was read.
+fn is_lacking(reply: Reply) -> bool {
+    reply.number == 4 && reply.place == 0
 }
 
 fn line_at(text: &[u8], place: u32) -> &[u8] {
@@ -527,40 +654,40 @@ impl Coverage {
 
     fn count_reply(&mut self, call: &Call, reply: Reply, written: &[u8]) {
         self.numbers[reply.number as usize] += 1;
-        match call.service {
-            Service::Plan => self.count_file(Place::Plan, 1, call.first, reply),
-            Service::Erase => self.count_file(Place::Erase, 1, call.first, reply),
-            Service::LeastLevel => self.count_file(Place::LeastLevel, 1, call.first, reply),
-            Service::Quote => self.count_file(Place::Quote, 1, call.first, reply),
-            Service::ToRising => self.count_file(Place::ToRising, 1, call.first, reply),
-            Service::FromRising => {
-                self.count_file(Place::FromRising, 1, call.first, reply);
+        let place = Place::of(call.service);
+        self.count_file(place, 1, call.first, reply);
+        if WRITING.contains(&place) {
+            self.count_written(place, call, reply, written);
+        }
+        match place {
+            Place::Plan => {
+                self.count_room_of_quote(call, reply);
+                if reply.number == 0 {
+                    self.count_conversions(Place::Plan, written);
+                }
+            }
+            Place::FromRising => {
                 if let Ok(listing) = file_of(call.first, Reading::Listing) {
                     self.count_listing(&listing, reply);
                 }
             }
-            Service::Check => {
-                self.count_file(Place::CheckCircuit, 1, call.first, reply);
-                if !is_reading(reply.number) || reply.file == 2 {
-                    self.count_file(Place::CheckSchedule, 2, call.second, reply);
-                }
-                if reply.number == 12 {
-                    self.count_another(call.first, call.second, reply.place);
-                }
+            Place::CheckCircuit => self.count_check(call, reply),
+            Place::MayDrop | Place::LiveAfter | Place::LivePeak | Place::Live => {
+                let mut found = [[false; 2]; ROWS.len()];
+                live::limits(call, reply).into_iter().for_each(|(row, side)| found[row][side] = true);
+                self.count_found(&found, place);
             }
-        }
-        match call.service {
-            Service::Plan => self.count_written(Place::Plan, call, reply, written),
-            Service::Erase => self.count_written(Place::Erase, call, reply, written),
-            Service::FromRising => self.count_written(Place::FromRising, call, reply, written),
-            Service::ToRising => self.count_written(Place::ToRising, call, reply, written),
             _ => {}
         }
-        if call.service == Service::Plan {
-            self.count_room_of_quote(call, reply);
-            if reply.number == 0 {
-                self.count_conversions(Place::Plan, written);
-            }
+    }
+
+    /// The second file of a check.
+    fn count_check(&mut self, call: &Call, reply: Reply) {
+        if !is_reading(reply.number) || reply.file == 2 {
+            self.count_file(Place::CheckSchedule, 2, call.second, reply);
+        }
+        if reply.number == 12 {
+            self.count_another(call.first, call.second, reply.place);
         }
     }
 
@@ -602,7 +729,8 @@ impl Coverage {
         if reply.number == 0 || reply.number == 13 || reply.file == file {
             self.count(reply.number as usize, TAKEN, place);
         }
-        if !is_reading(reply.number) || reply.file > file || is_after_conversion(place, text, reply) {
+        let is_read = !is_reading(reply.number) || reply.file > file || is_lacking(reply);
+        if is_read || is_after_conversion(place, text, reply) {
             self.count_taken(place, text);
             if has_headroom(text) && reply.number == 0 {
                 self.count(HEADROOM, TAKEN, place);
@@ -660,6 +788,7 @@ impl Coverage {
         found[CIRCUIT_LIMIT][TAKEN] = count == CIRCUIT_LINES && CIRCUITS.contains(&place);
         found[SCHEDULE_LIMIT][TAKEN] = count == SCHEDULE_LINES;
         found[KEPT_LIMIT][TAKEN] = kept == KEPT_LINES && KEEPING.contains(&place);
+        found[KEPT_READ] = [KEPT_LINES, KEPT_LINES + 1].map(|lines| kept == lines && KEEPING_ALL.contains(&place));
         found[CIRCUIT_LENGTH][TAKEN] = text.len() == CIRCUIT_BYTES && CIRCUITS.contains(&place);
         found[SCHEDULE_LENGTH][TAKEN] = text.len() == SCHEDULE_BYTES;
         self.count_found(&found, place);
@@ -732,7 +861,7 @@ impl Coverage {
             Place::FromRising => {
                 file_of(text, Reading::Listing).map(|listing| scale_limits(&listing, &rising::standings(&listing), reply))
             }
-            Place::CheckCircuit | Place::Erase => return,
+            _ => return,
         };
         let mut found = [[false; 2]; ROWS.len()];
         limits.into_iter().flatten().for_each(|(row, side): (usize, usize)| found[row][side] = true);
@@ -824,6 +953,7 @@ impl Coverage {
                 Class::Limit => asked.limits,
                 Class::Buffer => asked.buffers,
                 Class::Price => asked.prices,
+                Class::Live => asked.live,
             };
             if least == 0 || !places.iter().any(|(place, _)| row.places.contains(place)) {
                 continue;
@@ -1342,13 +1472,13 @@ mod tests {
             (QUOTED_BUFFER, "no H, room of bytes | one less"),
         ];
         assert!(last.iter().all(|&(row, name)| ROWS[row].name == name));
-        assert_eq!(ALL_CONVERSIONS, ROWS.len() - 1);
+        assert_eq!(ALL_CONVERSIONS + 1, LACKING);
         assert!(PLACES.iter().enumerate().all(|(at, &(place, _))| place as usize == at));
     }
 
     #[test]
     fn nothing_is_not_enough() {
-        let asked = Asked { replies: 1, conversions: 1, limits: 1, buffers: 1, prices: 1, only_plan: false };
+        let asked = Asked { replies: 1, conversions: 1, limits: 1, buffers: 1, prices: 1, live: 1, only_plan: false };
         assert!(!Coverage::default().print(&asked));
         assert!(
             counted(&[("circuit 60 20 2/in/const 7/mul 0 1/mul 2 1/mul 3 3/", 999)]).counts[US][Place::Plan as usize][0] == 1

@@ -2,6 +2,7 @@
 
 mod levels;
 mod listings;
+mod live;
 mod machines;
 mod quotes;
 mod reserves;
@@ -34,9 +35,10 @@ pub enum Kind {
     LegalListing,
     SpoiledListing,
     DamagedListing,
+    Live,
 }
 
-pub const KINDS: [Kind; 15] = [
+pub const KINDS: [Kind; 16] = [
     Kind::Circuit,
     Kind::Schedule,
     Kind::HandMade,
@@ -52,10 +54,11 @@ pub const KINDS: [Kind; 15] = [
     Kind::LegalListing,
     Kind::SpoiledListing,
     Kind::DamagedListing,
+    Kind::Live,
 ];
 
 /// The kinds follow each other in this order, over and over.
-const ROUND: [Kind; 26] = [
+const ROUND: [Kind; 27] = [
     Kind::Circuit,
     Kind::HandMade,
     Kind::DamagedCircuit,
@@ -82,11 +85,20 @@ const ROUND: [Kind; 26] = [
     Kind::Buffer,
     Kind::Limit,
     Kind::DamagedListing,
+    Kind::Live,
 ];
 
 impl Kind {
     pub fn of_case(case: u64) -> Kind {
         ROUND[(case % ROUND.len() as u64) as usize]
+    }
+
+    /// Which case of its kind a case is, from 0.
+    fn index_of_case(case: u64) -> u64 {
+        let round = ROUND.len() as u64;
+        let kind = Kind::of_case(case);
+        let count = |kinds: &[Kind]| kinds.iter().filter(|&&other| other == kind).count() as u64;
+        (case / round) * count(&ROUND) + count(&ROUND[..(case % round) as usize])
     }
 
     pub fn name(self) -> &'static str {
@@ -106,6 +118,7 @@ impl Kind {
             Kind::LegalListing => "mostly legal listings",
             Kind::SpoiledListing => "slightly illegal listings",
             Kind::DamagedListing => "damaged listings",
+            Kind::Live => "live ciphertexts",
         }
     }
 }
@@ -117,7 +130,7 @@ pub fn run(case: u64, random: &mut Random, both: &mut Both) -> Result<(), String
         Kind::Schedule => schedule(random, both),
         Kind::HandMade => hand_made(random, both),
         Kind::Spoiled => spoiled(random, both),
-        Kind::Limit => limit(case, both),
+        Kind::Limit => limit(random, case, both),
         Kind::DamagedCircuit => damaged_circuit(random, both),
         Kind::DamagedSchedule => damaged_schedule(random, both),
         Kind::Buffer => buffer(random, both),
@@ -128,6 +141,7 @@ pub fn run(case: u64, random: &mut Random, both: &mut Both) -> Result<(), String
         Kind::LegalListing => listings::legal(random, both),
         Kind::SpoiledListing => listings::spoiled(random, both),
         Kind::DamagedListing => listings::damaged(random, both),
+        Kind::Live => live::schedules(random, Kind::index_of_case(case), both),
     }
 }
 
@@ -153,17 +167,18 @@ fn at_level(circuit: &File, top_level: i32) -> File {
 
 fn circuit(random: &mut Random, both: &mut Both) -> Result<(), String> {
     let circuit = files::circuit(random);
-    let [planned, least] = services_of_circuit(&bytes_of(&circuit, Reading::Circuit), both)?;
+    let [planned, least] = services_of_circuit(random, &bytes_of(&circuit, Reading::Circuit), both)?;
     levels::around(random, &circuit, planned, least, both)
 }
 
-/// Plan, quote and least level of a circuit; where it has a plan, also the way through check and back by erase. Gives the replies of plan and least
-/// level.
-fn services_of_circuit(circuit: &[u8], both: &mut Both) -> Result<[Reply; 2], String> {
+/// Plan, quote and least level of a circuit; where it has a plan, also the way through check and back by erase, and what is live in it. Gives the
+/// replies of plan and least level.
+fn services_of_circuit(random: &mut Random, circuit: &[u8], both: &mut Both) -> Result<[Reply; 2], String> {
     let planned = quotes::plan_and_quote(circuit, both)?;
     let least = both.least_level(circuit)?.reply;
     if planned.reply.number == 0 {
         round_trip(circuit, &planned, both)?;
+        live::few(random, &planned.written, both)?;
     }
     Ok([planned.reply, least])
 }
@@ -181,8 +196,8 @@ fn schedule(random: &mut Random, both: &mut Both) -> Result<(), String> {
     services_of_schedule(random, &schedule, both)
 }
 
-/// Erases a schedule and turns it into a listing; checks it against its own circuit, puts it beside that circuit's plan where it passes, and checks it
-/// against another one.
+/// Erases a schedule, turns it into a listing and asks what is live in it; checks it against its own circuit, puts it beside that circuit's plan where
+/// it passes, and checks it against another one.
 fn services_of_schedule(random: &mut Random, schedule: &File, both: &mut Both) -> Result<(), String> {
     let text = bytes_of(schedule, Reading::Schedule);
     let can_be_erased = both.erase(&text, AMPLE)?.reply.number == 0;
@@ -193,6 +208,7 @@ fn services_of_schedule(random: &mut Random, schedule: &File, both: &mut Both) -
         reserves::beside_plan(&circuit, schedule, both)?;
     }
     listings::services_of_schedule(&text, Some(checked).filter(|_| can_be_erased), both)?;
+    live::few(random, &text, both)?;
     if random.percent(40) {
         let other = hand::other_circuit(random, &erased);
         both.check(&bytes_of(&other, Reading::Circuit), &text)?;
@@ -238,7 +254,8 @@ fn spoiled(random: &mut Random, both: &mut Both) -> Result<(), String> {
         reserves::beside_plan(&erased, &schedule, both)?;
     }
     both.erase(&text, AMPLE)?;
-    listings::services_of_schedule(&text, Some(checked), both)
+    listings::services_of_schedule(&text, Some(checked), both)?;
+    live::few(random, &text, both)
 }
 
 fn limit_pairs() -> &'static [Pair] {
@@ -246,14 +263,11 @@ fn limit_pairs() -> &'static [Pair] {
     PAIRS.get_or_init(limits::all)
 }
 
-fn limit(case: u64, both: &mut Both) -> Result<(), String> {
+fn limit(random: &mut Random, case: u64, both: &mut Both) -> Result<(), String> {
     // The list is gone through in order, and again from the start.
-    let before = ROUND[..(case % ROUND.len() as u64) as usize].iter().filter(|&&kind| kind == Kind::Limit).count() as u64;
-    let in_round = ROUND.iter().filter(|&&kind| kind == Kind::Limit).count() as u64;
-    let index = (case / ROUND.len() as u64) * in_round + before;
     let pairs = limit_pairs();
-    let pair = &pairs[(index % pairs.len() as u64) as usize];
-    services_of_circuit(&pair.circuit, both)?;
+    let pair = &pairs[(Kind::index_of_case(case) % pairs.len() as u64) as usize];
+    services_of_circuit(random, &pair.circuit, both)?;
     both.check(&pair.circuit, &pair.schedule)?;
     let erased = both.erase(&pair.schedule, AMPLE)?;
     if erased.reply.number == 0 {
@@ -263,14 +277,14 @@ fn limit(case: u64, both: &mut Both) -> Result<(), String> {
     both.check(b"circuit\t60\t20\t2\nin\n", &pair.schedule)?;
     listings::services_of_schedule(&pair.schedule, None, both)?;
     listings::services_of_listing(&limits::as_listing(&pair.schedule), both)?;
-    Ok(())
+    live::few(random, &pair.schedule, both)
 }
 
 fn damaged_circuit(random: &mut Random, both: &mut Both) -> Result<(), String> {
     let circuit = files::circuit(random);
     let sound = bytes_of(&circuit, Reading::Circuit);
     let damaged = damage::damage(random, &sound);
-    services_of_circuit(&damaged, both)?;
+    services_of_circuit(random, &damaged, both)?;
     let schedule = match plan::plan_of(&circuit) {
         Ok(schedule) => bytes_of(&schedule, Reading::Schedule),
         Err(_) => damage::soup(random, "schedule"),
@@ -284,6 +298,7 @@ fn damaged_schedule(random: &mut Random, both: &mut Both) -> Result<(), String> 
     let damaged = damage::damage(random, &bytes_of(&schedule, Reading::Schedule));
     both.erase(&damaged, AMPLE)?;
     listings::services_of_schedule(&damaged, None, both)?;
+    live::few(random, &damaged, both)?;
     both.check(&bytes_of(&erasure_of(&schedule), Reading::Circuit), &damaged)?;
     // The damaged schedule may be sound still: then its own erasure is met too.
     if let Ok(sound) = file_of(&damaged, Reading::Schedule) {
@@ -317,6 +332,7 @@ fn buffer(random: &mut Random, both: &mut Both) -> Result<(), String> {
     for room in rooms(random, erased.written.len()) {
         both.erase(&schedule, room)?;
     }
+    live::buffers(random, &schedule, both)?;
     listings::buffers(random, both)
 }
 
@@ -324,12 +340,13 @@ fn soup(random: &mut Random, both: &mut Both) -> Result<(), String> {
     let circuit = damage::soup(random, "circuit");
     let schedule = damage::soup(random, "schedule");
     let listing = damage::soup(random, "rising");
-    services_of_circuit(&circuit, both)?;
+    services_of_circuit(random, &circuit, both)?;
     both.erase(&schedule, AMPLE)?;
     both.check(&circuit, &schedule)?;
     both.check(b"circuit\t60\t20\t1\n", &schedule)?;
     listings::services_of_schedule(&schedule, None, both)?;
     listings::services_of_listing(&listing, both)?;
+    live::few(random, &schedule, both)?;
     // The empty slice in each place.
     both.check(&circuit, b"")?;
     both.check(b"", &schedule)?;
@@ -339,7 +356,7 @@ fn soup(random: &mut Random, both: &mut Both) -> Result<(), String> {
     both.to_rising(b"", 0)?;
     both.least_level(b"")?;
     both.quote(b"")?;
-    Ok(())
+    live::few(random, b"", both)
 }
 
 #[cfg(test)]
@@ -351,5 +368,13 @@ mod tests {
     fn a_run_goes_through_all_limits() {
         let cases = (0..200_000).filter(|&case| Kind::of_case(case) == Kind::Limit).count();
         assert!(cases >= limit_pairs().len(), "{cases} cases, {} limits", limit_pairs().len());
+    }
+
+    #[test]
+    fn cases_of_a_kind_are_counted_from_0() {
+        let of_kind = |kind| (0..2000).filter(move |&case| Kind::of_case(case) == kind);
+        for kind in KINDS {
+            assert!(of_kind(kind).enumerate().all(|(index, case)| Kind::index_of_case(case) == index as u64), "{kind:?}");
+        }
     }
 }

@@ -10,6 +10,10 @@ extern "C" {
     fn gowashiru_from_rising(listing: *const u8, listing_len: usize, out: *mut u8, out_len: usize) -> Reply;
     fn gowashiru_to_rising(schedule: *const u8, schedule_len: usize, out: *mut u8, out_len: usize) -> Reply;
     fn gowashiru_quote(circuit: *const u8, circuit_len: usize) -> QuoteReply;
+    fn gowashiru_may_drop(schedule: *const u8, schedule_len: usize, value: u32, line: u32) -> Reply;
+    fn gowashiru_live_after(schedule: *const u8, schedule_len: usize, line: u32) -> Reply;
+    fn gowashiru_live_peak(schedule: *const u8, schedule_len: usize) -> Reply;
+    fn gowashiru_live(schedule: *const u8, schedule_len: usize, out: *mut u8, out_len: usize) -> Reply;
     fn yardstick_plan(circuit: *const u8, circuit_len: usize, out: *mut u8, out_len: usize) -> Reply;
     fn yardstick_check(circuit: *const u8, circuit_len: usize, schedule: *const u8, schedule_len: usize) -> Reply;
     fn yardstick_erase(schedule: *const u8, schedule_len: usize, out: *mut u8, out_len: usize) -> Reply;
@@ -17,6 +21,10 @@ extern "C" {
     fn yardstick_from_rising(listing: *const u8, listing_len: usize, out: *mut u8, out_len: usize) -> Reply;
     fn yardstick_to_rising(schedule: *const u8, schedule_len: usize, out: *mut u8, out_len: usize) -> Reply;
     fn yardstick_quote(circuit: *const u8, circuit_len: usize) -> QuoteReply;
+    fn yardstick_may_drop(schedule: *const u8, schedule_len: usize, value: u32, line: u32) -> Reply;
+    fn yardstick_live_after(schedule: *const u8, schedule_len: usize, line: u32) -> Reply;
+    fn yardstick_live_peak(schedule: *const u8, schedule_len: usize) -> Reply;
+    fn yardstick_live(schedule: *const u8, schedule_len: usize, out: *mut u8, out_len: usize) -> Reply;
 }
 
 /// The proved archive, or the same services in plain C.
@@ -26,6 +34,7 @@ pub enum Library {
     Yardstick,
 }
 
+/// A service, with the numbers that it is handed beside its files.
 #[derive(Clone, Copy, PartialEq, Eq, Debug)]
 pub enum Service {
     Plan,
@@ -35,6 +44,17 @@ pub enum Service {
     FromRising,
     ToRising,
     Quote,
+    MayDrop { value: u32, line: u32 },
+    LiveAfter { line: u32 },
+    LivePeak,
+    Live,
+}
+
+impl Service {
+    /// Whether it writes to the buffer that it is lent.
+    pub fn writes(self) -> bool {
+        matches!(self, Service::Plan | Service::Erase | Service::FromRising | Service::ToRising | Service::Live)
+    }
 }
 
 /// What a service answers: a quote has a reply of its own.
@@ -100,7 +120,7 @@ impl Lent {
     }
 }
 
-/// Calls a service. `second` is asked for by check alone, `out` by all but check, least level and quote.
+/// Calls a service. `second` is asked for by check alone, `out` by those that write.
 pub fn call(library: Library, service: Service, first: &mut Lent, second: &mut Lent, out: &mut Lent) -> Answer {
     let (a, a_length) = (first.pointer(), first.length);
     let (b, b_length) = (second.pointer(), second.length);
@@ -116,6 +136,10 @@ pub fn call(library: Library, service: Service, first: &mut Lent, second: &mut L
             (Library::Archive, Service::FromRising) => gowashiru_from_rising(a, a_length, result, room).into(),
             (Library::Archive, Service::ToRising) => gowashiru_to_rising(a, a_length, result, room).into(),
             (Library::Archive, Service::Quote) => gowashiru_quote(a, a_length).into(),
+            (Library::Archive, Service::MayDrop { value, line }) => gowashiru_may_drop(a, a_length, value, line).into(),
+            (Library::Archive, Service::LiveAfter { line }) => gowashiru_live_after(a, a_length, line).into(),
+            (Library::Archive, Service::LivePeak) => gowashiru_live_peak(a, a_length).into(),
+            (Library::Archive, Service::Live) => gowashiru_live(a, a_length, result, room).into(),
             (Library::Yardstick, Service::Plan) => yardstick_plan(a, a_length, result, room).into(),
             (Library::Yardstick, Service::Check) => yardstick_check(a, a_length, b, b_length).into(),
             (Library::Yardstick, Service::Erase) => yardstick_erase(a, a_length, result, room).into(),
@@ -123,6 +147,10 @@ pub fn call(library: Library, service: Service, first: &mut Lent, second: &mut L
             (Library::Yardstick, Service::FromRising) => yardstick_from_rising(a, a_length, result, room).into(),
             (Library::Yardstick, Service::ToRising) => yardstick_to_rising(a, a_length, result, room).into(),
             (Library::Yardstick, Service::Quote) => yardstick_quote(a, a_length).into(),
+            (Library::Yardstick, Service::MayDrop { value, line }) => yardstick_may_drop(a, a_length, value, line).into(),
+            (Library::Yardstick, Service::LiveAfter { line }) => yardstick_live_after(a, a_length, line).into(),
+            (Library::Yardstick, Service::LivePeak) => yardstick_live_peak(a, a_length).into(),
+            (Library::Yardstick, Service::Live) => yardstick_live(a, a_length, result, room).into(),
         }
     }
 }

@@ -1,7 +1,7 @@
 //! The services, from lent bytes to a reply, and the program's output.
 
 use crate::text::{length, read, write, File, Reading, Refusal, Text, TEXT_BYTES};
-use crate::{check, erase, plan, price, rising};
+use crate::{check, erase, live, plan, price, rising};
 
 /// The reply of a call, laid out as in the C declarations. "number 0 is success, then file and place are 0."
 #[repr(C)]
@@ -26,6 +26,11 @@ impl Reply {
     /// "13 buffer too short, place 0, after all else."
     fn too_short() -> Reply {
         Reply { number: 13, file: 0, place: 0, length: 0 }
+    }
+
+    /// "A line or value number that the schedule lacks is 4 with place 0, after the file's refusals."
+    fn lacking() -> Reply {
+        Reply { number: 4, file: 0, place: 0, length: 0 }
     }
 }
 
@@ -130,6 +135,62 @@ pub fn to_rising(schedule: &[u8], out: &mut [u8]) -> Reply {
         Ok(()) => hand_back(&listing, Reading::Listing, out),
         Err(refusal) => Reply::refused(1, refusal),
     }
+}
+
+/// Say whether a value may be dropped after a line: 1 for yes and 0 for no.
+pub fn may_drop(schedule: &[u8], value: u32, line: u32) -> Reply {
+    let mut table = File::free();
+    if let Err(refusal) = read(schedule, Reading::Schedule, &mut table) {
+        return Reply::refused(1, refusal);
+    }
+    let lines = table.lines();
+    if value.max(line) as usize >= lines.len() {
+        return Reply::lacking();
+    }
+    Reply::success(live::may_drop(live::entries(lines)[value as usize], line).into())
+}
+
+/// Count the ciphertexts up to a line that are still named later.
+pub fn live_after(schedule: &[u8], line: u32) -> Reply {
+    let mut table = File::free();
+    if let Err(refusal) = read(schedule, Reading::Schedule, &mut table) {
+        return Reply::refused(1, refusal);
+    }
+    let lines = table.lines();
+    if line as usize >= lines.len() {
+        return Reply::lacking();
+    }
+    Reply::success(live::counts(lines, &live::entries(lines))[line as usize].into())
+}
+
+/// Give the largest live count.
+pub fn live_peak(schedule: &[u8]) -> Reply {
+    let mut table = File::free();
+    if let Err(refusal) = read(schedule, Reading::Schedule, &mut table) {
+        return Reply::refused(1, refusal);
+    }
+    let lines = table.lines();
+    Reply::success(live::peak(lines, &live::counts(lines, &live::entries(lines))).into())
+}
+
+/// What `live` writes for each value: its entry and the count after its own line, two bytes each, the lowest first.
+pub const LIVE_VALUE_BYTES: usize = 4;
+
+/// Give all entries and all live counts.
+pub fn live(schedule: &[u8], out: &mut [u8]) -> Reply {
+    let mut table = File::free();
+    if let Err(refusal) = read(schedule, Reading::Schedule, &mut table) {
+        return Reply::refused(1, refusal);
+    }
+    let lines = table.lines();
+    let Some(result) = out.get_mut(..LIVE_VALUE_BYTES * lines.len()) else { return Reply::too_short() };
+    let entries = live::entries(lines);
+    let counts = live::counts(lines, &entries);
+    for ((four, entry), count) in result.chunks_exact_mut(LIVE_VALUE_BYTES).zip(entries).zip(counts) {
+        four[..2].copy_from_slice(&entry.to_le_bytes());
+        four[2..].copy_from_slice(&count.to_le_bytes());
+    }
+    Reply::success(result.len() as u32)
 }
 
 /// "On success the bytes past the result's length are as at entry too."
@@ -351,6 +412,68 @@ mod tests {
             assert_eq!(plan(&bytes(shown), &mut []), refused(number, place).of_planning(), "{shown}");
         }
         assert_eq!(quote(&bytes(&format!("circuit 60 20 1/{}", "in/".repeat(257)))), refused(3, 258));
+    }
+
+    fn refused_at(number: u32, place: u32) -> Reply {
+        Reply { number, file: u32::from(place > 0), place, length: 0 }
+    }
+
+    /// An input that is named by a sum and by an output, a constant, its encoding, and the sum, which nobody names.
+    #[test]
+    fn answers_about_each_value() {
+        let schedule = bytes("schedule 60 20 1/in/const 7/enc 1 20 1/add 0 2/out 0/");
+        let answers = |value| [0, 1, 2, 3, 4].map(|line| may_drop(&schedule, value, line).length);
+        assert_eq!([answers(0), answers(1), answers(2)], [[0, 0, 0, 0, 1], [0, 0, 1, 1, 1], [0, 0, 0, 1, 1]]);
+        assert_eq!([answers(3), answers(4)], [[0, 0, 0, 1, 1], [0, 0, 0, 0, 1]]);
+        assert_eq!([0, 1, 2, 3, 4].map(|line| live_after(&schedule, line)), [1, 1, 1, 1, 0].map(Reply::success));
+        assert_eq!(live_peak(&schedule), Reply::success(1));
+        let mut out = [b'#'; 22];
+        assert_eq!(live(&schedule, &mut out), Reply::success(20));
+        assert_eq!(out[..], *b"\x04\0\x01\0\x02\0\x01\0\x03\0\x01\0\x03\0\x01\0\x04\0\0\0##");
+        assert_eq!(live(&schedule, &mut out[..19]), Reply::too_short());
+        assert_eq!(live(&schedule, &mut out[..20]), Reply::success(20));
+    }
+
+    /// A line or value that the schedule lacks, also one that it has modulo two to the 16.
+    #[test]
+    fn numbers_that_a_schedule_lacks() {
+        let schedule = bytes("schedule 60 20 1/in/neg 0/");
+        for number in [2, 3, 65_535, 65_536, 65_537, 1 << 31, u32::MAX] {
+            let replies = [(number, 0), (0, number), (number, number)].map(|(value, line)| may_drop(&schedule, value, line));
+            assert_eq!(replies, [refused_at(4, 0); 3], "{number}");
+            assert_eq!(live_after(&schedule, number), refused_at(4, 0), "{number}");
+        }
+        let alone = bytes("schedule 60 20 1 5/");
+        assert_eq!([may_drop(&alone, 0, 0), live_after(&alone, 0)], [refused_at(4, 0); 2]);
+        assert_eq!([live_peak(&alone), live(&alone, &mut [])], [Reply::success(0); 2]);
+    }
+
+    /// The file's refusals come before the caller's, and only reading is asked of the file.
+    #[test]
+    fn live_ciphertexts_of_any_file() {
+        for (shown, number, place) in [
+            ("", 1, 1),
+            ("circuit 60 20 1/in/", 1, 1),
+            ("schedule 60 61 1/in/", 2, 1),
+            ("schedule 60 20 1/in/neg 1/", 4, 3),
+            ("schedule 60 20 1/const 7/neg 0/", 5, 3),
+            ("schedule 60 20 1/in/us 0 3601/", 11, 3),
+            ("schedule 60 20 1/in/ds 0/", 1, 3),
+        ] {
+            let schedule = bytes(shown);
+            for number_asked in [0, u32::MAX] {
+                let drop = may_drop(&schedule, number_asked, number_asked);
+                assert_eq!([drop, live_after(&schedule, number_asked)], [refused_at(number, place); 2], "{shown}");
+            }
+            let mut out = [b'#'; 9];
+            let replies = [live_peak(&schedule), live(&schedule, &mut []), live(&schedule, &mut out)];
+            assert_eq!((replies, out), ([refused_at(number, place); 3], [b'#'; 9]), "{shown}");
+        }
+        // Rules that are broken, and as many kept lines as there can be.
+        assert_eq!(live_peak(&bytes("schedule 60 20 1/in/ms 0 60/add 0 1/")), Reply::success(2));
+        let full = format!("schedule 60 20 1/{}", "in/".repeat(1_791));
+        assert_eq!(live_after(&bytes(&format!("{full}neg 0/")), 1_790), Reply::success(1));
+        assert_eq!(live_peak(&bytes(&format!("{full}neg 0/in/"))), refused_at(3, 1_794));
     }
 
     #[test]

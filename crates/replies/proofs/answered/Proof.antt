@@ -10,6 +10,7 @@ answered-spec =
     (λ c. search reply-laws)
     (λ c κs. search reply-laws)
     (λ c. search reply-laws)
+    (λ c κs. search reply-laws)
     (λ c. search reply-laws)
     (λ c κs. search reply-laws)
     (λ c κs. search reply-laws)

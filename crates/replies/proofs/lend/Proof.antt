@@ -12,5 +12,6 @@ lend-spec =
     (λ c. search reply-laws)
     (λ c κs. search reply-laws)
     (λ c. search reply-laws)
+    (λ c κs. search reply-laws)
     (λ c. search reply-laws)
     (λ c. search reply-laws))

@@ -1,7 +1,7 @@
 //! Compares the archive and the yardstick with the reference on seeded random cases, and fails where too little was tried. `--case K` runs one
 //! case again and shows it.
 
-use reference::both::{Both, Halves, Levels, Reserves, Runs, Searches, Trips};
+use reference::both::{Both, Halves, Levels, Reserves, Runs, Scans, Searches, Trips};
 use reference::coverage::{Asked, Coverage};
 use reference::kinds::{run, Kind, KINDS};
 use reference::random::Random;
@@ -19,7 +19,8 @@ const BLOCK: u64 = 100;
 const MOST_GIVEN_UP: u64 = 20;
 const PROGRESS: Duration = Duration::from_secs(5);
 /// What a run must have tried, whatever its number of cases.
-const ASKED: Asked = Asked { replies: 200, conversions: 5000, limits: 20, buffers: 3000, prices: 1000, only_plan: false };
+const ASKED: Asked =
+    Asked { replies: 200, conversions: 5000, limits: 20, buffers: 3000, prices: 1000, live: 1000, only_plan: false };
 /// What each kind of case must have been replied: numbers, and how often at least.
 fn asked_of(kind: Kind) -> (&'static [usize], u64) {
     match kind {
@@ -38,11 +39,12 @@ fn asked_of(kind: Kind) -> (&'static [usize], u64) {
         Kind::LegalListing => (&[0, 3], 50),
         Kind::SpoiledListing => (&[0, 7, 8, 9, 10, 14], 100),
         Kind::DamagedListing => (&[0, 1, 2, 3, 4, 5, 9, 10, 11], 100),
+        Kind::Live => (&[0, 1, 2, 3, 4, 5, 11, 13], 100),
     }
 }
 
 /// The searches of each answer, with an H too, the runs of each end, the lines beside half their modulus, the trips from each dialect, the lines by
-/// their reserve and the plans at other levels.
+/// their reserve, the plans at other levels and what was scanned for.
 const ASKED_SHARP: u64 = 1000;
 
 struct Options {
@@ -78,6 +80,7 @@ struct Count {
     trips: Trips,
     reserves: Reserves,
     levels: Levels,
+    scans: Scans,
 }
 
 impl Count {
@@ -91,6 +94,7 @@ impl Count {
         self.trips.add(&other.trips);
         self.reserves.add(&other.reserves);
         self.levels.add(&other.levels);
+        self.scans.add(&other.scans);
     }
 }
 
@@ -122,8 +126,8 @@ fn run_case(seed: u64, case: u64, show: bool) -> (Result<(), String>, Count) {
     // Guard bytes have a generator of their own: they do not move the case.
     let mut both = Both::new(Random::new(!seed, case), show);
     let result = run(case, &mut random, &mut both);
-    let Both { calls, coverage, searches, runs, halves, trips, reserves, levels, .. } = both;
-    (result, Count { cases: 1, calls, coverage, searches, runs, halves, trips, reserves, levels })
+    let Both { calls, coverage, searches, runs, halves, trips, reserves, levels, scans, .. } = both;
+    (result, Count { cases: 1, calls, coverage, searches, runs, halves, trips, reserves, levels, scans })
 }
 
 fn run_one(seed: u64, case: u64) -> ExitCode {
@@ -219,7 +223,7 @@ fn print_kind(kind: Kind, count: &Count) -> bool {
     !asked.iter().any(|&number| is_short(number))
 }
 
-/// Prints the searches, the runs, the trips, the reserves and the levels, and says whether there are enough of each.
+/// Prints the searches, the runs, the trips, the reserves, the levels and the scans, and says whether there are enough of each.
 fn print_sharp(all: &Count) -> bool {
     let Searches { exists, none, gave_up, exists_with_headroom, none_with_headroom } = all.searches;
     println!("exhaustive searches: {exists} found a schedule, {none} found that there is none, {gave_up} gave up");
@@ -234,8 +238,16 @@ fn print_sharp(all: &Count) -> bool {
     let searched = [exists, none, exists_with_headroom, none_with_headroom];
     let others = [to_the_end, stopped, below, greatest, reached, of_listing, of_schedule];
     let is_decided = gave_up * MOST_GIVEN_UP <= exists + none + gave_up;
-    let best = print_best(all);
-    is_decided && searched.iter().chain(&others).chain(&best).all(|&count| count >= ASKED_SHARP)
+    let (best, scanned) = (print_best(all), print_scans(all));
+    is_decided && searched.iter().chain(&others).chain(&best).chain(&scanned).all(|&count| count >= ASKED_SHARP)
+}
+
+/// Prints what equals a scan of all later lines, and gives the counts.
+fn print_scans(all: &Count) -> [u64; 5] {
+    let Scans { entries, counts, peaks, yes, no } = all.scans;
+    println!("live ciphertexts: {entries} entries, {counts} counts and {peaks} largest counts are those of a scan of all later lines");
+    println!("  {yes} values may be dropped and {no} may not, as the scan says");
+    [entries, counts, peaks, yes, no]
 }
 
 /// Prints the lines by their reserve and the plans at other levels, and gives the counts.
@@ -263,7 +275,7 @@ fn print_counts(counts: &Counts) -> ExitCode {
     enough &= print_sharp(&all);
     enough &= all.coverage.print(&ASKED);
     if !enough {
-        println!("compare: no difference, but too little was tried: see the counts marked !, the searches, the runs, the lines with H, the trips, the reserves and the levels");
+        println!("compare: no difference, but too little was tried: see the counts marked !, the searches, the runs, the lines with H, the trips, the reserves, the levels and the scans");
         return ExitCode::FAILURE;
     }
     println!("compare: {} cases, {} calls, no difference", all.cases, all.calls);

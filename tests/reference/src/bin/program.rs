@@ -14,7 +14,7 @@ use std::process::{Command, ExitCode, Stdio};
 const INPUTS: u64 = 2_400;
 const SEED: u64 = 20_260_101;
 /// What a run must have tried, whatever its number of inputs. The program has room for every plan.
-const ASKED: Asked = Asked { replies: 10, conversions: 50, limits: 1, buffers: 0, prices: 0, only_plan: true };
+const ASKED: Asked = Asked { replies: 10, conversions: 50, limits: 1, buffers: 0, prices: 0, live: 0, only_plan: true };
 /// The longest circuit has so many bytes.
 const CIRCUIT_BYTES: usize = 4_372;
 /// So many bytes decide, since a line of the form has at most 28; the program need not read more. So many inputs must be longer.

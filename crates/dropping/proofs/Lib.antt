@@ -1,0 +1,3 @@
+mod Tests
+mod Laws
+pub mod Promise
