@@ -1,4 +1,6 @@
 // The bounds of a scale and a level: W ≤ scale, and scale and headroom ≤ F·level. Both may be below zero here, as after a rescale past zero.
+#![tactic(auto)]
+
 ghost use Rattle.std.specs.Prelude.{◌≡◌, ◌≤◌, T, pos, ◌+ℤ◌, ◌-ℤ◌, ◌*ℤ◌};
 ghost use Rattle.std.specs.Int.Signed.{le_z};
 ghost use Rattle.model.specs.Scales.{header_in_range, headroom};
@@ -7,7 +9,7 @@ ghost use Rattle.bounds.specs.Bounded.{bounded_numbers, InReach, SmallRuled};
 use model::Header;
 
 // What the rules make of a line: the scale and the level that it then holds, or the number of the rule that it breaks.
-#[derive(Drop)]
+#[derive(Clone, Copy)]
 pub enum Ruled {
     Goes { scale: u16, level: u16 },
     Stops(u32),

@@ -1,4 +1,6 @@
 // Check and erase, from the bytes of files to the reply. The text layer is used by its contracts alone.
+#![tactic(auto)]
+
 ghost use Rattle.std.specs.Prelude.{◌≡◌};
 ghost use Rattle.model.specs.declared.Grammar.TheVariants.{Circuit, Schedule};
 ghost use Rattle.text.specs.Tables.{TableFormed, file_of};
@@ -66,6 +68,7 @@ pub fn check(circuit: &[u8], schedule: &[u8]) -> Reply
 }
 
 // Erases a schedule to its circuit. Nothing is written before the text is known to fit.
+#[tactic(auto, using(crate::proofs::Laws::step_needs, crate::proofs::Laws::step_returns))]
 pub fn erase(schedule: &[u8], out: &mut [u8]) -> Reply
     ensures { Replied (erase_outcome schedule.now) out.old result out.new }
 {

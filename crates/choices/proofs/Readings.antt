@@ -31,7 +31,7 @@ fits_by_parts (negsuc n) p q = record { sfits = omega arith }
 -- ---- what is read back
 -- of a call's result
 pub result_held : (z : ℤ) → mag z < 2147483648 → held z ≡ z
-result_held z k = to_z-of_z (record { sfits = k })
+result_held z k = to_z-of_z {w = w32} (record { sfits = k })
 
 -- of a small number
 pub small_held : (z : ℤ) → Small z → held z ≡ z

@@ -1,5 +1,7 @@
 // How a ciphertext line is done, by the reserves of its operands: a function for each case of document 01's plan.
 // Reserves are signed, since what is left of one may come out below zero.
+#![tactic(auto)]
+
 ghost use Rattle.std.specs.Prelude.{◌≡◌, ◌*◌, ◌≤◌, pos, ◌-ℤ◌};
 ghost use Rattle.model.specs.Scales.{modulus};
 ghost use Rattle.model.specs.Plan.{lowest_level, smaller, at_waterline, input_choice, unchanged_choice, times_constant_choice, constant_times_choice, unequal_choice, same_level_choice, level_below_choice, greater_else_lower, product_choice};
@@ -173,6 +175,7 @@ fn greater_of(below: Choice, same: Choice) -> Choice
     }
 }
 
+#[tactic(auto, using(crate::proofs::ChoiceLaws::choices))]
 pub fn product_choice(header: Header, first: i32, second: i32) -> Choice
     requires header_ranges { HeaderRanges header }
     requires small { Small first }

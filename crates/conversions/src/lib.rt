@@ -1,4 +1,6 @@
 // Lines written into a schedule: one line, the conversion lines of a ciphertext, and an operand at a reserve and a level.
+#![tactic(auto)]
+
 ghost use Rattle.std.specs.Prelude.{◌≡◌, ◌+◌, ◌≤◌, min, pos, ◌≤ℤ◌};
 ghost use Rattle.ints.specs.Parts.{positive};
 ghost use Rattle.model.specs.declared.Line.TheVariants.{Ms, Us, Rs};
@@ -11,14 +13,14 @@ use model::{Header, Line};
 use tables::Record;
 
 // How many lines the schedule has, and the number of the value to name next.
-#[derive(Drop)]
+#[derive(Clone, Copy)]
 pub struct Drafted {
     pub count: usize,
     pub number: u16,
 }
 
 // What is known of an operand: its reserve and level where it is a ciphertext, and its number in the schedule.
-#[derive(Drop)]
+#[derive(Clone, Copy)]
 pub struct Operand {
     pub ciphertext: bool,
     pub reserve: i32,

@@ -1,4 +1,6 @@
 // From a listing to a schedule, from bytes to reply. The text layer is used by its contracts alone.
+#![tactic(auto)]
+
 ghost use Rattle.model.specs.declared.Grammar.TheVariants.{Schedule};
 ghost use Rattle.text.specs.Tables.{TableFormed};
 ghost use Rattle.listings.specs.Held.{counted_table, found_scales};
@@ -14,6 +16,7 @@ use services::Reply;
 use tables::Record;
 
 // The schedule of a listing that keeps its rules, with the scales that were found of its lines.
+#[tactic(auto, using(crate::proofs::Steps::schedule_needs, crate::proofs::Steps::schedule_returns))]
 fn lend_schedule<'a>(
     out: &mut [u8],
     header: Header,
@@ -34,6 +37,7 @@ fn lend_schedule<'a>(
 }
 
 // Makes a schedule of a listing. All its lines are held to the rules before one is converted, and nothing is written before the text is known to fit.
+#[tactic(auto, using(crate::proofs::Steps::step_needs, crate::proofs::Steps::step_returns))]
 pub fn from_rising(listing: &[u8], out: &mut [u8]) -> Reply
     ensures { Replied (from_rising_outcome listing.now) out.old result out.new }
 {

@@ -1,4 +1,6 @@
 // What a host may drop, from the bytes of a schedule to the reply. Reading is all that is asked of the schedule.
+#![tactic(auto)]
+
 ghost use Rattle.std.specs.Prelude.{◌≡◌};
 ghost use Rattle.tables.specs.Records.{lines_held, IsSchedule};
 ghost use Rattle.services.specs.Outcomes.{writes, tells, reply_of, Replied};

@@ -1,4 +1,6 @@
 // Erases the table of a schedule to that of its circuit, and compares a circuit with what a schedule erases to.
+#![tactic(auto)]
+
 ghost use Rattle.std.specs.Prelude.{◌≡◌, ◌≤◌, ◌<◌, T, length, get_or, drop};
 ghost use Rattle.rows.specs.Rows.{place_of};
 ghost use Rattle.model.specs.declared.Line.TheVariants.{Free};
@@ -18,7 +20,7 @@ use tables::Record;
 
 // What erasing makes of a line: it is kept, its operands counted anew, and its record has these numbers, since an enum holds no array; or it
 // is struck and was made from this kept line.
-#[derive(Drop)]
+#[derive(Clone, Copy)]
 enum Erased {
     Kept { number: u16, a: u16, b: u16, c: u16 },
     Struck(u16),
@@ -50,6 +52,7 @@ fn erase_line(origins: &[u16; 1792], schedule: &[Record], i: usize) -> Erased
 }
 
 // The lines that erasing keeps, renumbered, into records that are free, and how many they are.
+#[tactic(auto, using(crate::proofs::Filling::filling_laws, crate::proofs::Filling::after_struck))]
 pub fn erase_table(schedule: &[Record], count: usize, erasure: &mut [Record]) -> usize
     requires schedule { IsSchedule schedule.now count }
     requires erasure_value { erasure.old ≡ free_records }
@@ -77,7 +80,7 @@ pub fn erase_table(schedule: &[Record], count: usize, erasure: &mut [Record]) ->
 
 // ---- comparing
 // How a circuit compares with what a schedule erases to: the same, or the first place where they differ.
-#[derive(Drop)]
+#[derive(Clone, Copy)]
 pub enum Compared {
     Same,
     Differs { place: u32 },
@@ -141,6 +144,7 @@ fn differs_at(at: usize) -> Compared
 }
 
 // A circuit against the lines that erasing keeps of a schedule, each as soon as it is renumbered.
+#[tactic(auto, using(crate::proofs::Comparing::compare_laws, crate::proofs::Comparing::struck_passed, crate::proofs::Comparing::line_agrees))]
 pub fn compare_erasure<'a>(
     header: Header,
     circuit: &'a [Record],

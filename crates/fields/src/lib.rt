@@ -1,33 +1,35 @@
 // A text by its places: where a byte stands, whether two pieces are the same bytes, and the number that stands at a place. A number ends at the
 // first byte that is no digit; whether that byte may stand there is asked by whoever reads the line.
+#![tactic(auto)]
+
 ghost use Rattle.std.specs.Prelude.{◌≡◌, ◌+◌, ◌≤◌, T, pos, length, drop};
 ghost use Rattle.fields.specs.Pieces.{same_bytes};
 ghost use Rattle.fields.specs.Digits.{begins_digit, lone_zero};
 ghost use Rattle.fields.specs.Places.{begins, has_minus, size_of, is_unsigned, negated_to, number_from, field_at, before};
 
 // What a number field is, in the definitions: a number, whatever its range, or none. No code makes one.
-#[derive(Drop)]
+#[derive(Clone, Copy)]
 pub enum Field {
     Number(u64),
     NoNumber,
 }
 
 // What a rotation's field is, in the definitions. No code makes one.
-#[derive(Drop)]
+#[derive(Clone, Copy)]
 pub enum Amount {
     By(i64),
     NoAmount,
 }
 
 // A number against the largest that its caller allows, on either side of zero: within it, or above it.
-#[derive(Drop)]
+#[derive(Clone, Copy)]
 pub enum Size {
     Within(i64),
     Above,
 }
 
 // What stands at a place: a number and the place past it, or none.
-#[derive(Drop)]
+#[derive(Clone, Copy)]
 pub enum FieldAt {
     Whole { number: Size, end: usize },
     NoWhole,

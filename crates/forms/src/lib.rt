@@ -1,5 +1,7 @@
 // Reads a line as it goes along the text: its word, then the fields after it, of every kind of file. Digits are read up to the first byte that is
 // none, and that byte is then asked for: a tab before the next field, a line feed after the last.
+#![tactic(auto)]
+
 ghost use Rattle.std.specs.Prelude.{cond, ◌≡◌, map, ◌+◌, ◌≤◌, T, length, drop};
 ghost use Rattle.fields.specs.Pieces.{same_bytes};
 ghost use Rattle.forms.specs.declared.NumbersAt.TheVariants.{Numbers, OutOfRange};
@@ -10,7 +12,7 @@ use fields::{FieldAt, Size};
 
 // The numbers of a line's fields, each in its range, 0 past them, and the place of its line feed; the refusal of a line that is not of the form; or a
 // number is outside its range.
-#[derive(Drop)]
+#[derive(Clone, Copy)]
 pub enum NumbersAt {
     Numbers {
         first: i64,

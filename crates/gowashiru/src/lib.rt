@@ -1,4 +1,6 @@
 // The services for a host in C, each with what the demands ask of it. include/gowashiru.h has the declarations.
+#![tactic(auto)]
+
 ghost use Rattle.services.specs.Promises.{PlanPromise, CheckPromise, ErasePromise, LeastPromise};
 ghost use Rattle.services.specs.Listings.{FromRisingPromise};
 ghost use Rattle.risingwriter.specs.GoingOut.{ToRisingPromise};

@@ -1,4 +1,6 @@
 // Reading the header line: a file's own word and three numbers or four, each from 1 to 60.
+#![tactic(auto)]
+
 ghost use Rattle.std.specs.Prelude.{◌≡◌, ◌+◌, length, drop};
 ghost use Rattle.fields.specs.Pieces.{same_bytes};
 ghost use Rattle.forms.specs.Along.{line_in, field_in};
@@ -9,7 +11,7 @@ use listings::Levels;
 use model::{Grammar, Header, Headroom};
 
 // A header line that was read, and the place past its line feed; or a refusal.
-#[derive(Drop)]
+#[derive(Clone, Copy)]
 pub enum HeaderRead {
     Head { header: Header, end: usize },
     Bad { number: u32, place: u32 },
@@ -21,13 +23,14 @@ const NOT_OF_FORM: HeaderRead = HeaderRead::Bad {
 };
 
 // A number of the header, 0 where it is outside its range, and the place past it; or there is none.
-#[derive(Drop)]
+#[derive(Clone, Copy)]
 pub enum NumberAt {
     Number(u32, usize),
     NoNumber,
 }
 
 // Whether the text begins with the header word of a listing, where levels rise, or else of the grammar.
+#[tactic(auto, using(crate::proofs::HeaderLaws::word_laws))]
 fn is_header(levels: Levels, grammar: Grammar, text: &[u8]) -> bool
     ensures { result ≡ same_bytes (field_in text.now) (header_word_of levels grammar) }
 {
@@ -54,6 +57,7 @@ fn header_end(levels: Levels, grammar: Grammar) -> usize
 }
 
 // The number after a tab that stands here.
+#[tactic(auto, using(crate::proofs::HeaderLaws::number_laws))]
 fn number_at(text: &[u8], at: usize) -> NumberAt
     ensures { result ≡ number_at text.now at }
 {

@@ -6,7 +6,7 @@ ghost use Rattle.judging.specs.Judging.{fitness};
 use model::{Grammar, Kind};
 
 // What a line's operands are to it: of the kinds that it asks for, some not usable at all, or some of the wrong kind.
-#[derive(Drop)]
+#[derive(Clone, Copy)]
 pub enum Fitness {
     Fit,
     Unusable,

@@ -1,4 +1,6 @@
 // Operands and kinds of a line that is of the form and whose numbers are in their ranges, in this order; and what its record then holds.
+#![tactic(auto)]
+
 pub mod kinds;
 
 ghost use Rattle.std.specs.Prelude.{◌≡◌, [], ◌∷◌, ◌≤◌, T, length};
@@ -16,7 +18,7 @@ use tables::Record;
 use words::OperandsAsked;
 
 // A line that was read: what its record holds after the word's number, and the place past its line feed; or a refusal.
-#[derive(Drop)]
+#[derive(Clone, Copy)]
 pub enum LineRead {
     Good { a: u16, b: u16, c: u16, end: usize },
     Bad { number: u32, place: u32 },
@@ -24,7 +26,7 @@ pub enum LineRead {
 
 // A line that is of the form and whose numbers are in their ranges: its word, what that asks of its operands, the numbers of its fields, 0 past them, and
 // the place past its line feed.
-#[derive(Drop)]
+#[derive(Clone, Copy)]
 pub struct FormedLine {
     pub word: Word,
     pub asks: OperandsAsked,

@@ -1,4 +1,6 @@
 // The least top level at which a circuit fits.
+#![tactic(auto)]
+
 ghost use Rattle.std.specs.Prelude.{◌≡◌};
 ghost use Rattle.model.specs.declared.Grammar.TheVariants.{Circuit};
 ghost use Rattle.model.specs.Scales.{with_top};

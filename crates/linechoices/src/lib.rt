@@ -1,4 +1,6 @@
 // How a circuit line is done, by what is known of its operands: document 01's choice for its word, or too few levels.
+#![tactic(auto)]
+
 ghost use Rattle.std.specs.Prelude.{◌≡◌, true, ◌||◌, T};
 ghost use Rattle.model.specs.declared.Best.TheVariants.{Constant};
 ghost use Rattle.model.specs.Scales.{header_in_range};
@@ -11,7 +13,7 @@ use conversions::Operand;
 use model::{Choice, Header, Line};
 
 // A line is done so, or it has too few levels.
-#[derive(Drop)]
+#[derive(Clone, Copy)]
 pub enum LineChoice {
     Done(Choice),
     TooFew,

@@ -1,4 +1,6 @@
 // Writes the fields of a line into a buffer that is lent, and says how many bytes they are.
+#![tactic(auto)]
+
 ghost use Rattle.std.specs.Prelude.{◌+◌, ◌≤◌, length};
 ghost use Rattle.text.specs.Files.{line_form};
 ghost use Rattle.spelling.specs.Put.{Put, Counted};
@@ -6,6 +8,7 @@ ghost use Rattle.spelling.specs.Put.{Put, Counted};
 use model::Line;
 
 // The fields of a line by its word, from place `at` on, and the place past them. A free record has none.
+#[tactic(auto, using(crate::proofs::Fields::line_fields))]
 pub fn put_fields(out: &mut [u8], at: usize, line: Line) -> usize
     requires { at + length (line_form.text line) ≤ length out.old }
     ensures { Put out.old at (line_form.text line) result out.new }
@@ -34,6 +37,7 @@ pub fn put_fields(out: &mut [u8], at: usize, line: Line) -> usize
 }
 
 // How many bytes that is.
+#[tactic(auto, using(crate::proofs::Fields::line_fields))]
 pub fn fields_len(line: Line) -> usize
     ensures { Counted (line_form.text line) 71 result }
 {

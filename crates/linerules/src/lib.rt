@@ -1,4 +1,6 @@
 // The rules of one line: the scale and the level that it holds, from those that its operands hold.
+#![tactic(auto)]
+
 ghost use Rattle.std.specs.Prelude.{◌≡◌, ◌≤◌, T};
 ghost use Rattle.model.specs.Scales.{header_in_range};
 ghost use Rattle.model.specs.Files.{in_range};
@@ -10,7 +12,7 @@ use bounds::Ruled;
 use model::{Header, Line};
 
 // The scale and the level that a line holds; a bare constant has neither, and both are 0.
-#[derive(Drop)]
+#[derive(Clone, Copy)]
 pub struct Held {
     pub scale: u16,
     pub level: u16,

@@ -1,5 +1,6 @@
 // Reading one line of a file where it stands in the text: to the numbers of its record, or to a refusal's number and place. Of the lines before
 // it no more is asked than the kinds of those that it names.
+#![tactic(auto)]
 
 ghost use Rattle.std.specs.Prelude.{◌≡◌, map, ◌+◌, ◌≤◌, true, cond, T, pos, length, drop};
 ghost use Rattle.std.specs.Int.Signed.{non_neg};
@@ -64,7 +65,7 @@ fn numbers_of(
 }
 
 // A line's third number as its record holds it, a level counted down; or the scale before it or the level is outside its range.
-#[derive(Drop)]
+#[derive(Clone, Copy)]
 pub enum Level {
     Held(i64),
     Outside,
@@ -88,6 +89,7 @@ fn level_held(turns: bool, top: u32, second: i64, third: i64) -> Level
 }
 
 // One line, after those of the first `count` records, by the word that it begins with, in a file that counts levels so.
+#[tactic(auto, using(crate::proofs::ReadLaws::line_laws, crate::proofs::ReadLaws::past_within))]
 pub fn read_line(
     levels: Levels,
     grammar: Grammar,

@@ -1,4 +1,6 @@
 // A listing that keeps its rules, as a table holds it, to the table of the schedule that it becomes.
+#![tactic(auto)]
+
 ghost use Rattle.std.specs.Prelude.{◌≡◌, ◌+◌, ◌-◌, ◌<◌, T, get_or};
 ghost use Rattle.model.specs.declared.Line.TheVariants.{Free};
 ghost use Rattle.model.specs.declared.Grammar.TheVariants.{Schedule};
@@ -14,7 +16,7 @@ use tables::Record;
 
 // What a line becomes: one line, whose record has these numbers, since an enum holds no array; or, of a `ds`, an upscale of this value by
 // these bits and a rescale of that.
-#[derive(Drop)]
+#[derive(Clone, Copy)]
 enum Becomes {
     One { number: u16, a: u16, b: u16, c: u16 },
     Two { of: u16, bits: u16 },
@@ -70,13 +72,14 @@ fn convert_line(
 }
 
 // How many lines the schedule has; or the place of the listing's first line that no longer fits.
-#[derive(Drop)]
+#[derive(Clone, Copy)]
 pub enum Converted {
     Lines(usize),
     Full { place: u32 },
 }
 
 // The schedule's lines, into records that are free. The scales are those of the listing's lines.
+#[tactic(auto, using(crate::proofs::Converting::converting_laws, crate::proofs::Converting::after_one))]
 pub fn convert(
     header: Header,
     listing: &[Record],

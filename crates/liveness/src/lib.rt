@@ -1,4 +1,6 @@
 // What is kept beside a schedule that was read: for each value the last line that names it, and for each line how many ciphertexts are named later.
+#![tactic(auto)]
+
 ghost use Rattle.std.specs.Prelude.{◌≡◌, ◌+◌, ◌*◌, ◌≤◌, ◌<◌, length, get_or, set};
 ghost use Rattle.operands.specs.Operands.{operands_in};
 ghost use Rattle.tables.specs.Records.{lines_held, IsSchedule};

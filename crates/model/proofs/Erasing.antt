@@ -50,7 +50,7 @@ module _ {X E : Type 0} where
   refines_then (goes x) t f g r n = subst (λ (u : Step X E). Refines (f x) (and_then u g)) (sym r) (n x)
 
 module _ {X E : Type 0} (M : Machine X E) where
-  look_refines : {O : List ℕ} {S : List X} (R : List X) (n : ℕ) → All2 (Holds R) O S → (a : ℕ) → Refines (held_by M S a) (held_by M R (get_or O a n))
+  look_refines : (R : List X) {O : List ℕ} {S : List X} (n : ℕ) → All2 (Holds R) O S → (a : ℕ) → Refines (held_by M S a) (held_by M R (get_or O a n))
   look_refines R n nil2 a = tt
   look_refines R n (cons2 q t) zero = ap (or_absent M.absent) q
   look_refines R n (cons2 q t) (suc a) = look_refines R n t a
@@ -97,7 +97,7 @@ module _ {X E : Type 0} (M : Machine X E) where
   more O S R v r = map2 (λ o x h. found_after R (v ∷ []) o h) r
 
   -- a struck line holds what its held_by holds
-  struck_holds : {O : List ℕ} {S : List X} (R : List X) (n a : ℕ) (v : X) → All2 (Holds R) O S → and_then (held_by M S a) goes ≡ goes v → get_elem? R (get_or O a n) ≡ some v
+  struck_holds : (R : List X) {O : List ℕ} {S : List X} (n a : ℕ) (v : X) → All2 (Holds R) O S → and_then (held_by M S a) goes ≡ goes v → get_elem? R (get_or O a n) ≡ some v
   struck_holds R n a v nil2 e = stops_goes e
   struck_holds R n zero v (cons2 q t) e = q ∙ ap some (goes_is e)
   struck_holds R n (suc a) v (cons2 q t) e = struck_holds R n a v t e

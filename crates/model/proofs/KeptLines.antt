@@ -68,7 +68,7 @@ kept_here (x ∷ xs) before first count j e h = go (fate_of x) j h (λ c n j' h'
           place = omega arith;
           below = omega arith;
           origin = origins_after xs (before ++ (count ∷ [])) (suc count) first (ap (get_elem? (before ++ (count ∷ []))) e ∙ found_last before count) ∙ ap some (omega arith);
-          same_kind = renamed_kind _ x;
+          same_kind = renamed_kind (λ o. get_or before o count) x;
         }
     go kept (suc j) h r = let later = r count (suc count) j (le_of_suc-le-suc h) in
         record {

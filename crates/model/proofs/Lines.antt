@@ -131,7 +131,7 @@ module _ (h : Header) (H : HeaderFacts h) where
         (then h g₁ (then h g₂ (emit_kept h (word D.number E.number) (word a b) result g₂.sound (fate _ _)
         (λ n. steps n D.number E.number (found_in h E.lines) ∙ on_two f first second ∙ pair_found f u v p.first p.second p.level z ∙ goes_on)
         (subst T (sym (forms E.lines D.number E.number)) (two_formed true _ _ u v tt (kind_at_lem h first) (kind_at_lem h second) z))
-        (rename _ _ _ ∙ ap₂ word (names first) (names second)))))
+        (rename (λ o. get_or (origins E.lines) o (length (erase E.lines))) _ _ ∙ ap₂ word (names first) (names second)))))
       where
         result : Found
         result = Founds.Ciphertext (scale_at h H p.reserve p.level) p.level
@@ -171,7 +171,7 @@ module _ (h : Header) (H : HeaderFacts h) where
         (λ n. steps n D.number (found_in h D.lines)
         ∙ ap (λ (s : Step Found ℕ). and_then s (Refused.on_ciphertext (λ s l. bounded h Founds.Ciphertext (pos s) (pos l)))) (reads h g₁.stands)
         ∙ bounded_goes h Founds.Ciphertext _ _ (valid_bounds h H m.own))
-        (forms D.lines D.number (kind_at_lem h g₁.stands)) (rename _ _ ∙ ap word (names g₁.stands)))))
+        (forms D.lines D.number (kind_at_lem h g₁.stands)) (rename (λ o. get_or (origins D.lines) o (length (erase D.lines))) _ ∙ ap word (names g₁.stands)))))
       where
         p : Choice
         p = unchanged_choice h q.reserve

@@ -1,14 +1,15 @@
 // The types that document 01's definitions and the code share. What they mean stands in specs/.
+#![tactic(auto)]
 
 // The header's fourth number, "bits of size with the sign", where it is given.
-#[derive(Drop)]
+#[derive(Clone, Copy)]
 pub enum Headroom {
     None,
     Given(u32),
 }
 
 // "F is the rescale factor, W the waterline, L the top level", and H: one value, so that "however F, W and L reach each line now, it travels with them".
-#[derive(Drop)]
+#[derive(Clone, Copy)]
 pub struct Header {
     pub factor: u32,
     pub waterline: u32,
@@ -17,7 +18,7 @@ pub struct Header {
 }
 
 // The words of document 01's lines, and no word of them.
-#[derive(Drop)]
+#[derive(Clone, Copy)]
 pub enum Word {
     In,
     Const,
@@ -35,7 +36,7 @@ pub enum Word {
 
 // A line by its word; operands are value numbers. Of a line that is read a constant number has at most 32 bits and no other number more than 16;
 // definitions have whole numbers of any size in their place. Free is no line: a record that holds none.
-#[derive(Drop)]
+#[derive(Clone, Copy)]
 pub enum Line {
     In,
     Const(u32),
@@ -52,14 +53,14 @@ pub enum Line {
 }
 
 // The two files of document 01.
-#[derive(Drop)]
+#[derive(Clone, Copy)]
 pub enum Grammar {
     Circuit,
     Schedule,
 }
 
 // What a value can be used as. An `out` line and a free record are Nothing.
-#[derive(Drop)]
+#[derive(Clone, Copy)]
 pub enum Kind {
     Ciphertext,
     Constant,
@@ -69,7 +70,7 @@ pub enum Kind {
 
 // How a ciphertext line is done: the level, the reserves to which its operands come at that level, and the reserve that it then has.
 // The reserves of the operands mean nothing for `in`, which has no operand, and for `out`, which takes its own as it is.
-#[derive(Drop)]
+#[derive(Clone, Copy)]
 pub struct Choice {
     pub level: u32,
     pub first: i32,
@@ -78,14 +79,14 @@ pub struct Choice {
 }
 
 // What the plan knows of a circuit line: a bare constant, or a ciphertext and how it is done.
-#[derive(Drop)]
+#[derive(Clone, Copy)]
 pub enum Best {
     Constant,
     Ciphertext(Choice),
 }
 
 // What the check finds of a line: a bare constant, or a scale and a level.
-#[derive(Drop)]
+#[derive(Clone, Copy)]
 pub enum Found {
     Bare,
     Encoded(u32, u32),
@@ -93,7 +94,7 @@ pub enum Found {
 }
 
 // A service's answer on tables that were read: done, a least top level, or a refusal.
-#[derive(Drop)]
+#[derive(Clone, Copy)]
 pub enum Answer {
     Done,
     Level(u32),

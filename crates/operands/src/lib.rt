@@ -1,4 +1,6 @@
 // The values that a line names, and the line with others; the same of a record, by its word's number.
+#![tactic(auto)]
+
 ghost use Rattle.std.specs.Prelude.{◌≡◌, T};
 ghost use Rattle.model.specs.declared.Grammar.TheVariants.{Schedule};
 ghost use Rattle.model.specs.Files.{operands, is_word};
@@ -10,7 +12,7 @@ use tables::Record;
 
 // ---- a line
 // The values that a line names.
-#[derive(Drop)]
+#[derive(Clone, Copy)]
 pub enum OperandsOf {
     None,
     One(u16),

@@ -1,4 +1,6 @@
 // What the program prints: the plan of a circuit, or the line of its refusal.
+#![tactic(auto)]
+
 ghost use Rattle.std.specs.Prelude.{◌≤◌, length};
 ghost use Rattle.services.specs.Program.{ProgramPromise};
 

@@ -1,4 +1,6 @@
 // The lines of one circuit line in the schedule: those of its operands, then the line itself.
+#![tactic(auto)]
+
 ghost use Rattle.std.specs.Prelude.{◌≡◌, ◌+◌};
 ghost use Rattle.tables.specs.Records.{lines_held};
 ghost use Rattle.conversions.specs.Drafts.{Room, Wrote};

@@ -1,4 +1,6 @@
 // Plan and least level, from the bytes of a circuit to the reply. The text layer is used by its contracts alone.
+#![tactic(auto)]
+
 ghost use Rattle.std.specs.Prelude.{◌≡◌};
 ghost use Rattle.services.specs.Outcomes.{reply_of, Replied};
 ghost use Rattle.services.specs.Calls.{plan_outcome, least_outcome};
@@ -8,6 +10,7 @@ use reader::FileRead;
 use services::Reply;
 
 // Plans a circuit. The whole file is read before any line is found to have too few levels, and nothing is written before the text is known to fit.
+#[tactic(auto, using(crate::proofs::Laws::step_needs, crate::proofs::Laws::step_returns))]
 pub fn plan(circuit: &[u8], out: &mut [u8]) -> Reply
     ensures { Replied (plan_outcome circuit.now) out.old result out.new }
 {

@@ -1,4 +1,6 @@
 // The plan of a circuit, in one walk over its lines: each is done by what is known of the lines before it, and written at once.
+#![tactic(auto)]
+
 ghost use Rattle.std.specs.Prelude.{◌≡◌, ◌≤◌, ◌<◌, length};
 ghost use Rattle.model.specs.declared.Grammar.TheVariants.{Circuit};
 ghost use Rattle.model.specs.Services.{plan};
@@ -13,7 +15,7 @@ use model::Header;
 use tables::Record;
 
 // What planning comes to: the plan is written, in so many lines, or this line has too few levels.
-#[derive(Drop)]
+#[derive(Clone, Copy)]
 pub enum Planned {
     Lines(usize),
     TooFew { line: u32 },
@@ -46,6 +48,7 @@ fn operand_at(
 
 // The plan of a circuit, into records that are free. Beside it stand the best reserves of the circuit's lines, their levels, and their
 // numbers in the schedule.
+#[tactic(auto, using(crate::proofs::Planning::plan_laws))]
 pub fn plan_table(
     header: Header,
     circuit: &[Record],

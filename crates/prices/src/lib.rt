@@ -1,4 +1,6 @@
 // The price of a schedule: over the lines that a table holds, each at its level under the rules.
+#![tactic(auto)]
+
 ghost use Rattle.std.specs.Prelude.{◌≡◌, ◌≤◌, ◌<◌, T, length, get_or};
 ghost use Rattle.model.specs.declared.Grammar.TheVariants.{Schedule};
 ghost use Rattle.model.specs.Files.{is_word};

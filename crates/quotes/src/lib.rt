@@ -1,4 +1,6 @@
 // The quote: lines, bytes and price of a circuit's plan, counted over the planned table. No text is written.
+#![tactic(auto)]
+
 ghost use Rattle.std.specs.Prelude.{◌≡◌};
 ghost use Rattle.prices.specs.Levels.{RuledTable};
 ghost use Rattle.quotes.specs.Quotes.{QuotePromise};
@@ -11,7 +13,7 @@ use tables::Record;
 
 // A refusal's number, file and place, or 0 for all three and what is quoted.
 #[repr(C)]
-#[derive(Drop)]
+#[derive(Clone, Copy)]
 pub struct QuoteReply {
     pub number: u32,
     pub file: u32,
@@ -36,6 +38,7 @@ fn refusal(number: u32, place: u32) -> QuoteReply
 }
 
 // What a table's lines come to; the header's line is one more.
+#[tactic(auto)]
 fn counted(header: Header, schedule: &[Record], count: usize) -> QuoteReply
     requires { RuledTable header schedule.now count }
     ensures { CountsTable header schedule.now count result }

@@ -1,4 +1,6 @@
 // Reads a text into a table in one pass: the header line, then one line after another until the first that is refused.
+#![tactic(auto)]
+
 ghost use Rattle.std.specs.Prelude.{◌≡◌, [], ◌≤◌, ◌<◌, T, length, drop};
 ghost use Rattle.rows.specs.Lines.{lines_of};
 ghost use Rattle.model.specs.declared.Grammar.TheVariants.{Circuit};
@@ -42,7 +44,7 @@ fn past_limits(context: Context, count: usize, kept: usize, word: Word) -> bool
 }
 
 // What reading a file comes to: the table's header and how many lines there are, which stand in the records that are lent; or a refusal.
-#[derive(Drop)]
+#[derive(Clone, Copy)]
 pub enum FileRead {
     Table { header: Header, count: usize },
     Refused { number: u32, place: u32 },

@@ -1,4 +1,6 @@
 // From what a service comes to, to its reply: a refusal, an answer on tables that were read, or a table's text in the buffer that is lent.
+#![tactic(auto)]
+
 ghost use Rattle.std.specs.Prelude.{◌≡◌, ◌≤◌, leb, length};
 ghost use Rattle.model.specs.Answers.{answer_file};
 ghost use Rattle.model.specs.declared.Answer.TheVariants.{Refused};

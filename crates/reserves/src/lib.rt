@@ -1,4 +1,5 @@
 // The best reserve of a circuit line, by those of the lines before it.
+#![tactic(auto)]
 
 ghost use Rattle.std.specs.Prelude.{◌≡◌, ◌+◌, T, take};
 ghost use Rattle.model.specs.Scales.{header_in_range};
@@ -12,7 +13,7 @@ use model::{Header, Line};
 use tables::Record;
 
 // What a line comes to: the best reserve that it leaves, 0 for a bare constant, or too few levels.
-#[derive(Drop)]
+#[derive(Clone, Copy)]
 pub enum LineReserve {
     Leaves(i32),
     TooFew,

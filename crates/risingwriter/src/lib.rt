@@ -1,4 +1,6 @@
 // From a schedule to a listing, from bytes to reply: all that writes the dialect.
+#![tactic(auto)]
+
 ghost use Rattle.std.specs.Prelude.{◌≡◌, map, T, length};
 ghost use Rattle.model.specs.declared.Grammar.TheVariants.{Schedule};
 ghost use Rattle.model.specs.Scales.{header_in_range};
@@ -40,6 +42,7 @@ fn turn_levels(header: Header, records: &mut [Record], count: usize)
 }
 
 // Makes a listing of a schedule. Nothing is written before the text is known to fit.
+#[tactic(auto, using(crate::proofs::Steps::step_needs, crate::proofs::Steps::step_returns))]
 pub fn to_rising(schedule: &[u8], out: &mut [u8]) -> Reply
     ensures { Replied (to_rising_outcome schedule.now) out.old result out.new }
 {

@@ -1,1 +1,2 @@
 // Definitions and laws of files as rows; no code.
+#![tactic(auto)]

@@ -1,4 +1,6 @@
 // The rules of a schedule's lines, or of a listing's as a table holds them: the first line that breaks one, and which.
+#![tactic(auto)]
+
 ghost use Rattle.std.specs.Prelude.{◌≡◌};
 ghost use Rattle.model.specs.declared.Grammar.TheVariants.{Schedule};
 ghost use Rattle.text.specs.Tables.{TableFormed};
@@ -12,6 +14,7 @@ use model::{Answer, Header};
 use tables::Record;
 
 // The first line that breaks a rule, and which. Where none does, the scale that each line has is left behind; a bare constant leaves 0.
+#[tactic(auto, using(crate::proofs::Checking::loop_laws))]
 pub fn rules_answer(
     header: Header,
     schedule: &[Record],

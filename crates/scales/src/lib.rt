@@ -1,4 +1,6 @@
 // What documents 01 and 02 say of scales and reserves, in code, once for the rules and for the plan.
+#![tactic(auto)]
+
 ghost use Rattle.std.specs.Prelude.{T};
 ghost use Rattle.model.specs.Scales.{header_in_range};
 ghost use Rattle.scales.specs.Headroom.{SmallHeadroom};

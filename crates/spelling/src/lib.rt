@@ -1,5 +1,7 @@
 // Spells a word and the numbers after it into a buffer that is lent, and says beforehand how many bytes that is.
 // A function put_.. writes from place `at` on and returns the place past what it wrote; one .._len says how many bytes that is.
+#![tactic(auto)]
+
 ghost use Rattle.std.specs.Prelude.{◌≡◌, [], ◌∷◌, ◌+◌, ◌≤◌, ◌<◌, length, nat_abs};
 ghost use Rattle.fields.specs.Pieces.{tab, join};
 ghost use Rattle.fields.specs.Numbers.{decimal, amount_text};
@@ -36,6 +38,7 @@ fn put_digit(out: &mut [u8], at: usize, n: u32) -> usize
 }
 
 // Most numbers have one to three digits, which need no call for a hundredth.
+#[tactic(auto, using(crate::proofs::Digits::last_room, crate::proofs::Digits::digit_puts))]
 fn put_number(out: &mut [u8], at: usize, n: u32) -> usize
     requires { at + length (decimal n) ≤ length out.old }
     ensures { Put out.old at (decimal n) result out.new }

@@ -1,4 +1,6 @@
 // The record that holds a line, and what the code of several crates asks of a table of records.
+#![tactic(auto)]
+
 ghost use Rattle.std.specs.Prelude.{◌≡◌, ◌+◌, ◌*◌, ◌/◌, ◌%◌, ◌≤◌, ◌<◌, length, get_or};
 ghost use Rattle.model.specs.declared.Line.TheVariants.{Free};
 ghost use Rattle.model.specs.Words.{entry};

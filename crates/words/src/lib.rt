@@ -1,4 +1,6 @@
 // The words of the lines: which one stands at a place, and what its row says of the fields after it.
+#![tactic(auto)]
+
 ghost use Rattle.std.specs.Prelude.{◌≡◌, ◌+◌, ◌≤◌, length, drop};
 ghost use Rattle.model.specs.declared.Grammar.TheVariants.{Circuit};
 ghost use Rattle.model.specs.declared.Word.TheVariants.{Const, Rot};
@@ -10,7 +12,7 @@ use listings::Levels;
 use model::{Grammar, Word};
 
 // What a word asks of its operands, which are its first fields.
-#[derive(Drop)]
+#[derive(Clone, Copy)]
 pub enum OperandsAsked {
     NoOperand,
     Ciphertext,
@@ -20,7 +22,7 @@ pub enum OperandsAsked {
 
 // What a word's row says of the fields after it: how many there are; how many of them, the first ones, are operands; the least and the largest that each
 // other number may be, but for the level of an encoded constant, which goes up to the top level; and what is asked of the operands.
-#[derive(Drop)]
+#[derive(Clone, Copy)]
 pub struct WordRow {
     pub fields: usize,
     pub operands: usize,
@@ -30,14 +32,14 @@ pub struct WordRow {
 }
 
 // A line's first field: which word it is, and the place past it.
-#[derive(Drop)]
+#[derive(Clone, Copy)]
 pub struct Spelled {
     pub word: Word,
     pub end: usize,
 }
 
 // The same, with the word's row.
-#[derive(Drop)]
+#[derive(Clone, Copy)]
 pub struct WordAt {
     pub word: Word,
     pub row: WordRow,
@@ -119,6 +121,7 @@ fn spelled_as(text: &[u8], at: usize, word: Word, bytes: &[u8]) -> Spelled
 }
 
 // The same of each word.
+#[tactic(auto, using(crate::proofs::WordLaws::bytes_laws))]
 fn spelled_at(word: Word, text: &[u8], at: usize) -> Spelled
     requires { at ≤ length text.now }
     ensures { result ≡ spelled_at at (word_if word (drop at text.now)) }
@@ -140,6 +143,7 @@ fn spelled_at(word: Word, text: &[u8], at: usize) -> Spelled
 }
 
 // Whether a listing's line begins with `ds`, which no other file has.
+#[tactic(auto, using(crate::proofs::WordLaws::found_laws))]
 fn is_downscale(levels: Levels, text: &[u8], at: usize) -> bool
     requires { at ≤ length text.now }
     ensures { result ≡ begins_downscale levels (drop at text.now) }

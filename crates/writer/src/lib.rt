@@ -1,5 +1,7 @@
 // Writes the file that a table holds as text into a buffer that is lent, and says beforehand how long the text is.
 // A function put_.. writes from place `at` on and returns the place past what it wrote; one .._len says how many bytes that is.
+#![tactic(auto)]
+
 ghost use Rattle.std.specs.Prelude.{◌≡◌, [], ◌∷◌, ◌+◌, ◌≤◌, length, pos};
 ghost use Rattle.rows.specs.Forms.{said_text};
 ghost use Rattle.rows.specs.Lines.{text_of};
@@ -84,6 +86,7 @@ fn header_len(word: &[u8], header: Header) -> usize
 }
 
 // ---- the line of a refusal
+#[tactic(auto)]
 pub fn put_refused(out: &mut [u8], at: usize, number: u32, place: u32) -> usize
     requires { at + length (text_of (said_text (ascii "refused") (pos number ∷ pos place ∷ []) ∷ [])) ≤ length out.old }
     ensures { Put out.old at (text_of (said_text (ascii "refused") (pos number ∷ pos place ∷ []) ∷ [])) result out.new }
@@ -111,6 +114,7 @@ pub fn file_len<'a>(word: &'a [u8], header: Header, records: &'a [Record], count
 }
 
 // Writes the text at the front of the buffer, of which nothing else changes, and returns its length.
+#[tactic(auto, using(crate::proofs::Lines::writings))]
 pub fn put_file<'a>(
     out: &mut [u8],
     word: &'a [u8],

@@ -6,10 +6,10 @@ use Rattle.fields.proofs.SearchLaws.{byte_laws}
 use Rattle.fields.proofs.find.Statement.{statement}
 use Rattle.fields.proofs.find.Tie as tie
 
-abbrev invariant_loop : tie.invariant-loop
+abbrev invariant_loop : tie.invariant-loop-i
 invariant_loop s x i₀ i = NoneBefore x s i
 
-abbrev decreases_loop : tie.decreases-loop
+abbrev decreases_loop : tie.decreases-loop-i
 decreases_loop s x i₀ i = length s - i
 
 pub find_spec : {M : Type 1} → statement M

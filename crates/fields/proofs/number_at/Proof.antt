@@ -7,10 +7,10 @@ use Rattle.fields.proofs.ReadingLaws.{begin, zero_leads, one_too_many, next, no_
 use Rattle.fields.proofs.number_at.Statement.{statement}
 use Rattle.fields.proofs.number_at.Tie as tie
 
-abbrev invariant_loop : tie.invariant-loop
+abbrev invariant_loop : tie.invariant-loop-at
 invariant_loop s at start largest position₀ value₀ position value = DigitsRead s at start position value
 
-abbrev decreases_loop : tie.decreases-loop
+abbrev decreases_loop : tie.decreases-loop-at
 decreases_loop s at start largest position₀ value₀ position value = 11 - position
 
 pub number_at_spec : {M : Type 1} → statement M
@@ -37,7 +37,7 @@ number_at_spec =
     (λ c.
     let test = c.before.before.before.before in
     let zero = c.before.before in
-    search (next, test.before.before.loop.invariant, test.before.is_digit_at.ensures, test.if1.true, zero.before.is_lone_zero.ensures, zero.if2.false, c.before.if3.false))
+    search (next, test.before.before.loop-at.invariant, test.before.is_digit_at.ensures, test.loop-at-test.true, zero.before.is_lone_zero.ensures, zero.if-is_lone_zero.false, c.before.if-position-eq-LONGEST_FIELD.false))
     (λ c. search (rules, no_digit))
     (λ c κs. search reading_laws)
     (λ c. search reading_laws)

@@ -5,10 +5,10 @@ use Rattle.levels.proofs.Seeking.{Seeking, Trying, seeking}
 use Rattle.levels.proofs.least_level.Statement.{statement}
 use Rattle.levels.proofs.least_level.Tie as tie
 
-abbrev invariant_loop : tie.invariant-loop
+abbrev invariant_loop : tie.invariant-loop-i
 invariant_loop given circuit count reserves₀ level₀ header i₀ reserves level i = Trying header circuit count level₀ level reserves i
 
-abbrev decreases_loop : tie.decreases-loop
+abbrev decreases_loop : tie.decreases-loop-i
 decreases_loop given circuit count reserves₀ level₀ header i₀ reserves level i = count - i
 
 abbrev invariant_levels : tie.invariant-levels

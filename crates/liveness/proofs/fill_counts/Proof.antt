@@ -4,10 +4,10 @@ use Rattle.liveness.proofs.Counting.{Counting, counting_laws}
 use Rattle.liveness.proofs.fill_counts.Statement.{statement}
 use Rattle.liveness.proofs.fill_counts.Tie as tie
 
-abbrev invariant_loop : tie.invariant-loop
+abbrev invariant_loop : tie.invariant-loop-i
 invariant_loop schedule count entries counts₀ ends₀ live₀ i₀ counts ends live i = Counting schedule count entries counts ends live i
 
-abbrev decreases_loop : tie.decreases-loop
+abbrev decreases_loop : tie.decreases-loop-i
 decreases_loop schedule count entries counts₀ ends₀ live₀ i₀ counts ends live i = count - i
 
 pub fill_counts_spec : {M : Type 1} → statement M

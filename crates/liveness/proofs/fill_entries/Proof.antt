@@ -4,10 +4,10 @@ use Rattle.liveness.proofs.Naming.{Naming, naming_laws}
 use Rattle.liveness.proofs.fill_entries.Statement.{statement}
 use Rattle.liveness.proofs.fill_entries.Tie as tie
 
-abbrev invariant_loop : tie.invariant-loop
+abbrev invariant_loop : tie.invariant-loop-i
 invariant_loop schedule count entries₀ i₀ entries i = Naming schedule count entries i
 
-abbrev decreases_loop : tie.decreases-loop
+abbrev decreases_loop : tie.decreases-loop-i
 decreases_loop schedule count entries₀ i₀ entries i = count - i
 
 pub fill_entries_spec : {M : Type 1} → statement M

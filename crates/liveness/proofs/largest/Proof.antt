@@ -4,10 +4,10 @@ use Rattle.liveness.proofs.Peaks.{Finding, finding_laws}
 use Rattle.liveness.proofs.largest.Statement.{statement}
 use Rattle.liveness.proofs.largest.Tie as tie
 
-abbrev invariant_loop : tie.invariant-loop
+abbrev invariant_loop : tie.invariant-loop-i
 invariant_loop numbers count most₀ i₀ most i = Finding numbers count most i
 
-abbrev decreases_loop : tie.decreases-loop
+abbrev decreases_loop : tie.decreases-loop-i
 decreases_loop numbers count most₀ i₀ most i = count - i
 
 pub largest_spec : {M : Type 1} → statement M

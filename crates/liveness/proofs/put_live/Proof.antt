@@ -4,10 +4,10 @@ use Rattle.liveness.proofs.Bytes.{Laying, laying_laws}
 use Rattle.liveness.proofs.put_live.Statement.{statement}
 use Rattle.liveness.proofs.put_live.Tie as tie
 
-abbrev invariant_loop : tie.invariant-loop
+abbrev invariant_loop : tie.invariant-loop-i
 invariant_loop out₀ entries counts count at₀ i₀ out at i = Laying out₀ entries counts count out at i
 
-abbrev decreases_loop : tie.decreases-loop
+abbrev decreases_loop : tie.decreases-loop-i
 decreases_loop out₀ entries counts count at₀ i₀ out at i = count - i
 
 pub put_live_spec : {M : Type 1} → statement M

@@ -14,7 +14,7 @@ operand_at_spec =
     (λ c. search operand_laws)
     (λ c. search operand_laws)
     (λ c. search operand_laws)
-    (λ c. record { fits = omega (arith, c.shared-slice-known3.given c.before.before.before.before.before.before.args.value) })
+    (λ c. record { fits = omega (arith, c.shared_slice_known-3-1.given c.before.before.before.before.before.before.args.value) })
     (λ c. search operand_laws)
     (λ c. search operand_laws)
     (λ c. search operand_laws))

@@ -4,10 +4,10 @@ use Rattle.prices.proofs.Pricing.{Pricing, price_laws}
 use Rattle.prices.proofs.table_price.Statement.{statement}
 use Rattle.prices.proofs.table_price.Tie as tie
 
-abbrev invariant_loop : tie.invariant-loop
+abbrev invariant_loop : tie.invariant-loop-i
 invariant_loop header schedule count levels₀ price₀ i₀ levels price i = Pricing header schedule count levels price i
 
-abbrev decreases_loop : tie.decreases-loop
+abbrev decreases_loop : tie.decreases-loop-i
 decreases_loop header schedule count levels₀ price₀ i₀ levels price i = count - i
 
 pub table_price_spec : {M : Type 1} → statement M

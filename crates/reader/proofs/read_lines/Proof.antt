@@ -5,10 +5,10 @@ use Rattle.reader.proofs.Filling.{Filling, text_falls, kept_room, line_stored, f
 use Rattle.reader.proofs.read_lines.Statement.{statement}
 use Rattle.reader.proofs.read_lines.Tie as tie
 
-abbrev invariant_loop : tie.invariant-loop
+abbrev invariant_loop : tie.invariant-loop-at
 invariant_loop levels context header text start records₀ grammar count₀ kept₀ at₀ records count kept at = Filling levels context header text start records count kept at
 
-abbrev decreases_loop : tie.decreases-loop
+abbrev decreases_loop : tie.decreases-loop-at
 decreases_loop levels context header text start records₀ grammar count₀ kept₀ at₀ records count kept at = length text - at
 
 pub read_lines_spec : {M : Type 1} → statement M

@@ -17,8 +17,8 @@ sum_reserve_spec =
     (λ c.
     let first = c.before.before.before in
     let start = first.before.before in
-    sum_second _ _ _ _ start.requires.0 start.requires.1 _ first.before.is_constant.ensures first.if1.false _ c.before.before.is-constant2.ensures
-    c.before.if2.true)
+    sum_second _ _ _ _ start.requires.0 start.requires.1 _ first.before.is_constant.ensures first.if-is_constant.false _ c.before.before.is_constant-2.ensures
+    c.before.if-is_constant-2.true)
     (λ c. search pairs)
     (λ c. search pairs)
     (λ c. search pairs)

@@ -4,10 +4,10 @@ use Rattle.risingwriter.proofs.Levels.{Turning, turning_laws}
 use Rattle.risingwriter.proofs.turn_levels.Statement.{statement}
 use Rattle.risingwriter.proofs.turn_levels.Tie as tie
 
-abbrev invariant_loop : tie.invariant-loop
+abbrev invariant_loop : tie.invariant-loop-i
 invariant_loop header records₀ count i₀ records i = Turning header records₀ records count i
 
-abbrev decreases_loop : tie.decreases-loop
+abbrev decreases_loop : tie.decreases-loop-i
 decreases_loop header records₀ count i₀ records i = count - i
 
 pub turn_levels_spec : {M : Type 1} → statement M

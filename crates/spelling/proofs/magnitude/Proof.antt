@@ -10,7 +10,7 @@ magnitude_spec =
     (tie.spec
     (λ c. search widened_fits)
     (λ c. search opposite_fits)
-    (λ c. let s = opposite_size _ c.before.ranges.amount c.if1.true in (s.positive, s.fits))
-    (λ c. (opposite_size _ c.before.ranges.amount c.if1.true).size)
-    (λ c. let s = held_size _ c.before.ranges.amount c.if1.false in (s.positive, s.fits))
+    (λ c. let s = opposite_size _ c.before.ranges.amount c.if-amount-lt0.true in (s.positive, s.fits))
+    (λ c. (opposite_size _ c.before.ranges.amount c.if-amount-lt0.true).size)
+    (λ c. let s = held_size _ c.before.ranges.amount c.if-amount-lt0.false in (s.positive, s.fits))
     (λ c. search rules))

@@ -9,10 +9,10 @@ use Rattle.spelling.proofs.Puts.{paste_more, put_all}
 use Rattle.spelling.proofs.put_bytes.Statement.{statement}
 use Rattle.spelling.proofs.put_bytes.Tie as tie
 
-abbrev invariant_loop : tie.invariant-loop
+abbrev invariant_loop : tie.invariant-loop-i
 invariant_loop out₀ at bytes i₀ out i = (i ≤ length bytes) × (length out ≡ length out₀) × (out ≡ paste out₀ at bytes i)
 
-abbrev decreases_loop : tie.decreases-loop
+abbrev decreases_loop : tie.decreases-loop-i
 decreases_loop out₀ at bytes i₀ out i = length bytes - i
 
 pub put_bytes_spec : {M : Type 1} → statement M
