@@ -4,5 +4,5 @@
 set -euo pipefail
 cd "$(dirname "${BASH_SOURCE[0]}")/.."
 documents=(README.md docs/*.md)
-find . \( -path ./target -o -path ./.git \) -prune -o -print | sed 's|^\./||' |
-    awk -f tests/names.awk kind=paths - kind=sources $(find crates include tools -name '*.antt' -o -name '*.rt' -o -name '*.[ch]') kind=documents "${documents[@]}"
+find . \( -path ./target -o -path ./.git -o -path './crates/*/out' \) -prune -o -print | sed 's|^\./||' |
+    awk -f tests/names.awk kind=paths - kind=sources $(find crates include tools -path 'crates/*/out' -prune -o \( -name '*.antt' -o -name '*.rt' -o -name '*.[ch]' \) -print) kind=documents "${documents[@]}"

@@ -15,7 +15,7 @@ fail() {
 crates_of() { # CRATE
     awk -F: -v wanted="$1" '
         { sub(/#.*/, "") }
-        NF == 2 { rests[$1] = $2 }
+        NF == 2 { sub(/ .*/, "", $1); rests[$1] = $2 }
         function visit(name, list, count, i) {
             if (!(name in rests) || name in seen) return
             seen[name] = 1
@@ -31,7 +31,7 @@ sources() { # PRODUCT
     local crate=gowashiru
     [ "$1" != program ] || crate=plan
     # A crate's name has no space.
-    find $(crates_of "$crate" | sed 's|^|crates/|') -name must-fail -prune -o -type f -print
+    find $(crates_of "$crate" | sed 's|^|crates/|') \( -name must-fail -o -name out \) -prune -o -type f -print
     echo crates.txt
     echo toolchain.txt
     [ "$1" != command ] || printf '%s\n' include/*.h tools/*.h tools/*.c
@@ -57,35 +57,38 @@ need_toolchain() {
 
 # Says each crate that rt proves, and how many there are. Those that have not changed are only counted.
 tell_crates() { # TOTAL
-    local line name done=0
+    local line name="" checked=0 done=0
     while IFS= read -r line; do
         printf '%s\n' "$line" >>"$log"
-        [[ "$line" =~ ^rt:\ ([A-Za-z0-9_]+)\ (NOT PROVED|proved)[\ :]\(?([a-z]*) ]] || continue
-        name="${BASH_REMATCH[1]}"
-        if [ "${BASH_REMATCH[2]}" != proved ]; then
+        if [[ "$line" =~ ^rt:\ chose\ --jobs\ [0-9]+\ for\ ([a-z0-9_]+) ]]; then
+            name="${BASH_REMATCH[1]}"
+        elif [[ "$line" =~ ^crate\ "$name":.*\ checked=([0-9]+) ]]; then
+            checked="${BASH_REMATCH[1]}"
+        elif [[ "$line" == logic=proved* ]]; then
+            done=$((done + 1))
+            [ "$checked" = 0 ] || echo "proved $done of $1: $name" >&2
+        elif [[ "$line" == logic=not-proved* ]]; then
             echo "$name is not proved" >&2
-            continue
         fi
-        done=$((done + 1))
-        [ "${BASH_REMATCH[3]}" = unchanged ] || echo "proved $done of $1: $name" >&2
     done
 }
 
-# Crates that do not rest on each other are proved at once; four at a time were fastest on two processors.
-prove() { # CRATE
-    RT_JOBS="${RT_JOBS:-4}" rt check "$1" </dev/null 2>&1 | tell_crates "$(crates_of "$1" | wc -l)" ||
-        fail "$1 cannot be built; $PWD/$log says why"
+# Proves a crate and those below it, lowest first, and makes what it is: a program or a static library, in its folder out/.
+make_crate() { # CRATE COMMAND
+    (cd "crates/$1" && rt "$2" </dev/null 2>&1) | tell_crates "$(crates_of "$1" | wc -l)" || fail "$1 cannot be built; $PWD/$log says why"
 }
 
+# `rt run` also runs the program, once, on no input.
 build_program() {
-    prove plan
+    make_crate plan run
+    mkdir -p target/bin
+    cp crates/plan/out/plan target/bin/plan
 }
 
-# rt makes an archive by itself one crate at a time, so all are proved before.
 build_archive() {
-    prove gowashiru
-    echo "making the archive" >&2
-    rt staticlib gowashiru </dev/null >>"$log" 2>&1 || fail "the archive cannot be made; $PWD/$log says why"
+    make_crate gowashiru lib
+    mkdir -p target/staticlib
+    cp crates/gowashiru/out/libgowashiru.a target/staticlib/libgowashiru.a
 }
 
 build_command() {
