@@ -1,5 +1,5 @@
 -- The bounds of a scale and a level as the code asks for them, and the ranges in which numbers stay.
-use Rattle.std.specs.Prelude.{ℕ, ◌+◌, ◌≤◌, cond, List, [], ◌∷◌, ℤ}
+use Rattle.std.specs.Prelude.{ℕ, ◌+◌, ◌≤◌, cond, [], ◌∷◌, ℤ}
 use Rattle.ints.specs.Parts.{positive, negative}
 use Rattle.rows.specs.Rows.{Tests}
 use Rattle.model.specs.declared.Header.{Header}

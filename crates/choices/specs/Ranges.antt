@@ -11,7 +11,7 @@ pub record HeaderRanges (h : Header) : Type 0 where
   pub top_least : 1 ≤ h.top
   pub top_most : h.top ≤ 60
 
--- the reserve of a ciphertext that a circuit goes on with: not below zero, and no more than the greatest F-as-L
+-- the reserve of a ciphertext that a circuit goes on with: not below zero, and no more than the greatest F·L
 pub record Small (r : ℤ) : Type 0 where
   pub low : pos 0 ≤ℤ r
   pub high : r ≤ℤ pos 3600

@@ -19,7 +19,7 @@ best_of o =
 abbrev pub supplied : Header → Operand → ℤ → ℕ → List Line → Draft
 supplied h o r l lines = supply h (best_of o) r l (record { lines = lines; number = o.number })
 
--- A ciphertext has at least that reserve and that level, and no more than the greatest F-as-L and L.
+-- A ciphertext has at least that reserve and that level, and no more than the greatest F·L and L.
 pub record Falls (o : Operand) (r : ℤ) (l : ℕ) : Type 0 where
   pub whole : pos 0 ≤ℤ o.reserve
   pub most : positive o.reserve ≤ 3600

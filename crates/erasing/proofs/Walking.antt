@@ -14,7 +14,7 @@ use Rattle.model.specs.declared.Grammar.TheVariants.{Schedule}
 use Rattle.model.specs.declared.Line.{Line}
 use Rattle.model.specs.declared.Line.TheVariants.{Free}
 use Rattle.model.specs.Files.{is_word, operands, every_usable}
-use Rattle.model.specs.Services.{Fate, kept, made_from, renumbered, erase_from, erase}
+use Rattle.model.specs.Services.{Fate, kept, made_from, renumbered, erase_from}
 use Rattle.model.proofs.Tests.{below_or_not}
 use Rattle.model.proofs.Formed.{LineFacts, formed_index, well_lines}
 use Rattle.text.proofs.Tables.{table_length}

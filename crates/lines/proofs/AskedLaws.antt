@@ -30,7 +30,6 @@ use Rattle.forms.specs.Asked as A
 use Rattle.forms.specs.Asked.{asked_at, read_as, any_outside, all_held}
 use Rattle.forms.proofs.TextLaws.{alike, Small}
 use Rattle.words.specs.Words.{held_word, row_in}
-use Rattle.judging.specs.Judging as Judging
 use Rattle.judging.specs.Judging.{NumbersFit}
 use Rattle.judging.proofs.JudgeLaws.{line_of_three}
 use Rattle.lines.specs.declared.Level.TheVariants as Level

@@ -41,7 +41,6 @@ use Rattle.judging.specs.declared.LineRead.{LineRead}
 use Rattle.judging.specs.declared.FormedLine.{FormedLine}
 use Rattle.judging.specs.Judging.{NumbersFit, line_read, line_to, judged_as}
 use Rattle.lines.specs.declared.Level.{Level}
-use Rattle.lines.specs.declared.Level.TheVariants as Level
 use Rattle.lines.specs.Lines.{held_as, tested_as, listed_tests, turns_level, asked_by, level_held, word_judged}
 use Rattle.lines.proofs.HeldLaws.{asked_of, every_listed, judged_same}
 use Rattle.lines.proofs.AskedLaws.{held_line_of, range_of, held_at, LevelFits, Asking, asking}

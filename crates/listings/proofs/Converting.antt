@@ -5,7 +5,6 @@ use mathlib.Core.Bool.{Bool, not}
 use mathlib.Core.List.{List, [], ◌∷◌, ◌++◌}
 use lib.Dec.{T}
 use lib.ListN.{get_or, take}
-use Rattle.rows.specs.Rows as Rows
 use Rattle.model.specs.declared.Grammar.TheVariants.{Schedule}
 use Rattle.model.specs.declared.Header.{Header}
 use Rattle.model.specs.declared.Line.{Line}

@@ -12,7 +12,6 @@ use Rattle.model.specs.declared.Found.{Found}
 use Rattle.model.specs.declared.Found.TheVariants as Founds
 use Rattle.model.specs.declared.Grammar.TheVariants.{Schedule}
 use Rattle.model.specs.declared.Header.{Header}
-use Rattle.model.specs.declared.Kind.TheVariants.{Ciphertext}
 use Rattle.model.specs.declared.Line.TheVariants.{Rs, Free}
 use Rattle.model.specs.Answers.{check_machine}
 use Rattle.model.specs.Files.{is_word, in_range, well_formed}

@@ -17,7 +17,7 @@ use Rattle.model.specs.declared.Found.TheVariants as Founds
 use Rattle.model.specs.declared.Grammar.TheVariants.{Schedule}
 use Rattle.model.specs.declared.Header.{Header}
 use Rattle.model.specs.declared.Kind.{Kind}
-use Rattle.model.specs.declared.Kind.TheVariants.{Ciphertext, Encoded}
+use Rattle.model.specs.declared.Kind.TheVariants.{Ciphertext}
 use Rattle.model.specs.declared.Line.{Line}
 use Rattle.model.specs.declared.Line.TheVariants.{Rs, Us, Free}
 use Rattle.model.specs.Answers.{bounded, on_ciphertext, check_machine}

@@ -9,7 +9,7 @@ use Rattle.ints.specs.Parts.{positive}
 use Rattle.ints.proofs.Linear.{signed, parts+, parts-, is_positive}
 use Rattle.model.specs.declared.Header.{Header}
 use Rattle.model.specs.declared.Line.{Line}
-use Rattle.model.specs.Scales.{reserve, with_top}
+use Rattle.model.specs.Scales.{with_top}
 use Rattle.model.specs.Machine.{Step, goes, finished, run}
 use Rattle.model.specs.declared.Choice.{Choice}
 use Rattle.model.specs.declared.Best.{Best}

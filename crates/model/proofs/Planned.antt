@@ -15,7 +15,7 @@ use Rattle.ints.proofs.Linear.{parts-, ≤-read}
 use Rattle.model.specs.declared.Header.{Header}
 use Rattle.model.specs.declared.Line.{Line}
 use Rattle.model.specs.declared.Line.TheVariants.{In, Const, Neg, Rot, Add, Mul, Out, Enc, Rs, Ms, Us, Free}
-use Rattle.model.specs.declared.Grammar.TheVariants.{Circuit, Schedule}
+use Rattle.model.specs.declared.Grammar.TheVariants.{Circuit}
 use Rattle.model.specs.Scales.{headroom}
 use Rattle.model.specs.Files.{kind_of, kind_at, is_usable, in_range, every_usable, line_formed, lines_formed}
 use Rattle.model.specs.Machine.{Step, goes, stops, Run, finished, stopped, and_then, held_by, step, count_in, run_from, run}

@@ -5,7 +5,7 @@ use native.Mathlib.Omega.{arith}
 use mathlib.Core.Path.{◌≡◌, refl, sym, ap, ◌∙◌, subst}
 use mathlib.Core.List.{List, [], ◌∷◌, ◌++◌}
 use lib.ListN.{length, get_or}
-use lib.IntN.{ℤ, pos}
+use lib.IntN.{ℤ}
 use Rattle.ints.proofs.Linear.{signed}
 use Rattle.rows.specs.Rows.{place_of}
 use Rattle.model.specs.declared.Header.{Header}
@@ -16,7 +16,7 @@ use Rattle.model.specs.declared.Best.TheVariants as Bests
 use Rattle.model.specs.Machine.{Step, goes, Run, finished, stopped, run}
 use Rattle.model.specs.Files.{nth}
 use Rattle.model.specs.Plan.{smaller, input_choice, unchanged_choice, times_constant_choice, constant_times_choice, product_choice, unless_too_few, on_best, on_reserves, best_machine}
-use Rattle.model.specs.Plan.{Draft, supply, choice_of, operand_to, plan_line, plan_from, plan_lines}
+use Rattle.model.specs.Plan.{Draft, supply, choice_of, plan_line, plan_from, plan_lines}
 use Rattle.model.specs.Services.{Planned, scheduled, unplanned, plan}
 use Rattle.model.proofs.EveryWord.{each_line}
 use Rattle.model.proofs.Lists.{All3, nil3, cons3}

@@ -104,7 +104,7 @@ rescaled h c s l v =
     (if_bounded h (pos s -ℤ pos (h.factor * c)) (pos l -ℤ pos c) (over_two_to (h.factor * c) v))
 
 -- "The scale machine runs a schedule and keeps scales and levels too, as the rules above move them; `enc` has scale S, level E. `in`
--- and `enc` multiply the vector by two to the scale, `us` by two to B, `rs` divides by two to F-as-C; `ms` leaves the vector. The other
+-- and `enc` multiply the vector by two to the scale, `us` by two to B, `rs` divides by two to F·C; `ms` leaves the vector. The other
 -- lines work as in the plain machine".
 abbrev pub scale_machine : Handed → Header → Machine Holding Reason
 scale_machine H h =

@@ -122,15 +122,15 @@ abbrev pub unless_zero : (ℕ → ℕ → Line) → ℕ → Draft → Draft
 unless_zero word zero d = d
 unless_zero word (suc n) d = emit d.lines (word d.number (suc n))
 
--- "with d = r − r' and q the smaller of d div F and l − l'"
+-- "with d = r − r′ and q the smaller of d div F and l − l′"
 abbrev pub switches : Header → ℕ → ℕ → ℕ
 switches h d levels = min (d / h.factor) levels
 
--- "write `ms` q, then `us` d − q·F, then `rs` l − l' − q"
+-- "write `ms` q, then `us` d − q·F, then `rs` l − l′ − q"
 abbrev pub convert : Header → ℕ → ℕ → ℕ → Draft → Draft
 convert h d levels q draft = unless_zero Rs (levels - q) (unless_zero Us (d - q * h.factor) (unless_zero Ms q draft))
 
--- "Bringing a value from (r, l) to (r', l')". In a plan r' ≤ r and l' ≤ l; otherwise the differences would be cut off at 0.
+-- "Bringing a value from (r, l) to (r′, l′)". In a plan r′ ≤ r and l′ ≤ l; otherwise the differences would be cut off at 0.
 abbrev pub bring : Header → ℤ → ℕ → ℤ → ℕ → Draft → Draft
 bring h r l r' l' draft =
     convert h (positive (r -ℤ r')) (l - l') (switches h (positive (r -ℤ r')) (l - l')) draft

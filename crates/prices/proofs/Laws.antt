@@ -13,14 +13,14 @@ use Rattle.model.specs.declared.Grammar.TheVariants.{Schedule}
 use Rattle.model.specs.declared.Header.{Header}
 use Rattle.model.specs.declared.Kind.{Kind}
 use Rattle.model.specs.declared.Line.{Line}
-use Rattle.model.specs.declared.Line.TheVariants.{Enc, Rs, Ms}
+use Rattle.model.specs.declared.Line.TheVariants.{Enc}
 use Rattle.rows.specs.Fields.{within}
 use Rattle.model.specs.Files.{is_word, kind_at, is_ciphertext, in_range}
 use Rattle.model.proofs.Tests.{and_first, and_second, below_or_not, within_facts, header_facts}
 use Rattle.operands.proofs.Renaming.{each_number, numbered_word}
 use Rattle.tables.specs.Records.{line_with, line_from, line_of}
-use Rattle.prices.specs.Prices.{summed, per_level, down_from, starts_at}
-use Rattle.prices.specs.Levels.{summed_starts, taken, level_after, OnLevel, product_of, prices}
+use Rattle.prices.specs.Prices.{summed, per_level, down_from}
+use Rattle.prices.specs.Levels.{summed_starts, level_after, OnLevel, product_of, prices}
 
 -- ---- what is told by the first number
 -- a price per level, where b tells whether both operands are ciphertexts

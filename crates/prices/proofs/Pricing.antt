@@ -1,5 +1,5 @@
 -- The loop over a schedule's lines: the price and the levels so far, for whatever scales and levels keep the rules. Assumes nothing.
-use Prim.Native.Nat.{ℕ, zero, suc, ◌+◌, ◌-◌, ◌*◌, ◌≤◌, ◌<◌}
+use Prim.Native.Nat.{ℕ, ◌+◌, ◌-◌, ◌*◌, ◌≤◌, ◌<◌}
 use native.Mathlib.Nat.{mul-le-mul}
 use native.Mathlib.Numerals.{add-one}
 use native.Mathlib.Omega.{arith}
@@ -21,7 +21,7 @@ use Rattle.model.specs.declared.Line.{Line}
 use Rattle.model.specs.declared.Line.TheVariants.{In, Const, Neg, Rot, Add, Mul, Out, Enc, Rs, Ms, Us, Free}
 use Rattle.model.specs.Scales.{header_in_range}
 use Rattle.model.specs.Files.{kind_of, kind_at, is_ciphertext, is_encoded, is_usable, is_word, operands}
-use Rattle.model.specs.Rules.{Rule, KeepsRules, has_scale}
+use Rattle.model.specs.Rules.{Rule, KeepsRules}
 use Rattle.model.proofs.Tests.{or_first, below_or_not}
 use Rattle.model.proofs.Checked.{pair_numbers}
 use Rattle.model.proofs.Formed.{LineFacts, well_header, well_lines, formed_index, usable_below}
@@ -29,7 +29,7 @@ use Rattle.operands.specs.Operands.{first_operand}
 use Rattle.operands.proofs.Operands.{operand_below}
 use Rattle.tables.specs.Records.{line_from, line_of, lines_of, lines_held}
 use Rattle.tables.proofs.Beside.{none_most, set_most}
-use Rattle.prices.specs.Prices.{summed, per_level, down_from, starts_at, line_price, price, IsPrice}
+use Rattle.prices.specs.Prices.{summed, per_level, down_from, starts_at, line_price, IsPrice}
 use Rattle.prices.specs.Levels.{summed_starts, taken, level_after, OnLevel, RuledTable}
 
 -- ---- a line that keeps its rule, where the level that is known of its operand is the one that the rules give

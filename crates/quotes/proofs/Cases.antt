@@ -30,7 +30,7 @@ use Rattle.services.proofs.Planning.{plan_comes_to}
 use Rattle.prices.specs.Prices.{price, IsPrice}
 use Rattle.prices.specs.Worked.{level_of, level_found, checked_price}
 use Rattle.quotes.specs.declared.QuoteReply.{QuoteReply}
-use Rattle.quotes.specs.Quotes.{Quotes, QuoteComesTo, quoted, unplanned, QuotePromise}
+use Rattle.quotes.specs.Quotes.{QuoteComesTo, quoted, unplanned, QuotePromise}
 use Rattle.quotes.specs.Worked.{priced_as, reply_to, quote_reply, all_hold, table}
 
 pub tested : T (all_hold table)

@@ -1,18 +1,18 @@
 -- The line feeds of a schedule's text are its lines and the header's. Assumes nothing.
-use Prim.Native.Nat.{ℕ, suc}
+use Prim.Native.Nat.{suc}
 use mathlib.Core.Path.{◌≡◌, refl, ap, ◌∙◌}
 use mathlib.Core.List.{List, [], ◌∷◌, ◌++◌, map}
 use borrow.Author.Tests.{ne_eqb}
-use lib.ListN.{length, length-map}
+use lib.ListN.{length}
 use Rattle.fields.specs.Pieces.{Bytes, line_feed}
-use Rattle.fields.proofs.Each.{Each, none, one}
+use Rattle.fields.proofs.Each.{none, one}
 use Rattle.fields.proofs.PieceLaws.{Without}
 use Rattle.rows.specs.Lines.{text_of}
 use Rattle.rows.specs.Rows as Rows
 use Rattle.model.specs.declared.Line.{Line}
 use Rattle.model.specs.declared.Grammar.TheVariants.{Schedule}
 use Rattle.model.specs.Files.{File}
-use Rattle.text.specs.Files.{header_form, line_form, schedule_context, file_text}
+use Rattle.text.specs.Files.{line_form, schedule_context, file_text}
 use Rattle.text.proofs.FileLaws.{lawful}
 use Rattle.quotes.specs.Quotes.{line_feeds}
 

@@ -1,23 +1,21 @@
 -- The quote, step by step: what each return says, from the tests on the way and what the callees ensure. Assumes nothing.
 use Prim.Native.Nat.{ℕ, suc, ◌+◌, ◌≤◌}
-use native.Mathlib.Omega.{arith}
-use mathlib.Core.Path.{◌≡◌, refl, sym, ap, ◌∙◌, subst}
+use mathlib.Core.Path.{◌≡◌, sym, ap, ◌∙◌, subst}
 use mathlib.Core.List.{List}
 use borrow.Author.Rules.{rules}
-use lib.Dec.{T}
 use lib.ListN.{length, length-map}
 use Rattle.fields.specs.Pieces.{Bytes}
 use Rattle.rows.specs.Rows.{read}
-use Rattle.model.specs.declared.Grammar.TheVariants.{Circuit, Schedule}
+use Rattle.model.specs.declared.Grammar.TheVariants.{Schedule}
 use Rattle.model.specs.declared.Header.{Header}
-use Rattle.model.specs.Files.{File, well_formed}
+use Rattle.model.specs.Files.{File}
 use Rattle.model.specs.Services.{scheduled, plan}
 use Rattle.model.proofs.Theorems as Model
 use Rattle.text.specs.Files.{read_text, circuit_context, file_text}
 use Rattle.text.specs.Tables.{file_of}
 use Rattle.text.proofs.Tables.{count_length}
 use Rattle.text.proofs.FileLaws.{file_read_written}
-use Rattle.tables.specs.Records.{line_of, lines_held, held}
+use Rattle.tables.specs.Records.{line_of, held}
 use Rattle.tables.proofs.Records.{still_long}
 use Rattle.reader.specs.declared.FileRead.{FileRead}
 use Rattle.reader.specs.declared.FileRead.TheVariants.{Table, Refused}
@@ -27,7 +25,7 @@ use Rattle.plantable.specs.declared.Planned.{Planned}
 use Rattle.plantable.specs.declared.Planned.TheVariants.{Lines, TooFew}
 use Rattle.plantable.specs.Plans.{planned_of}
 use Rattle.plantable.proofs.Told.{lines_few, place_fits}
-use Rattle.services.specs.Outcomes.{Outcome, writes, refuses}
+use Rattle.services.specs.Outcomes.{Outcome, refuses}
 use Rattle.services.specs.Calls.{planned, plan_outcome}
 use Rattle.services.specs.Promises.{Plans}
 use Rattle.services.proofs.Steps.{once_read_lem, once_refused}

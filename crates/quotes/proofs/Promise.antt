@@ -4,15 +4,13 @@ use native.Mathlib.Omega.{arith}
 use mathlib.Core.Path.{◌≡◌, refl, sym, ap, ◌∙◌, subst}
 use mathlib.Core.Bool.{Bool, true, false, cond}
 use mathlib.Core.List.{[], ◌++◌}
-use mathlib.Core.Logic.{◌↔◌, ◌⊎◌, inl, inr}
+use mathlib.Core.Logic.{◌⊎◌, inl, inr}
 use borrow.Author.Tests.{le-leb, lt-leb}
 use lib.Dec.{leb}
 use lib.ListN.{length, take, drop}
 use lib.Seq.{take-append_seam}
 use Rattle.fields.specs.Pieces.{Bytes}
-use Rattle.rows.specs.Rows.{read}
 use Rattle.model.specs.Files.{File}
-use Rattle.model.specs.Demands.{Schedulable}
 use Rattle.model.proofs.Tests.{below_or_not}
 use Rattle.text.specs.Files.{read_text, circuit_context, schedule_context}
 use Rattle.services.specs.declared.Reply.{Reply}

@@ -38,7 +38,6 @@ fn refusal(number: u32, place: u32) -> QuoteReply
 }
 
 // What a table's lines come to; the header's line is one more.
-#[tactic(auto)]
 fn counted(header: Header, schedule: &[Record], count: usize) -> QuoteReply
     requires { RuledTable header schedule.now count }
     ensures { CountsTable header schedule.now count result }

@@ -19,7 +19,7 @@ use Rattle.model.specs.declared.Choice.{Choice}
 use Rattle.model.specs.declared.Grammar.TheVariants.{Circuit}
 use Rattle.model.specs.declared.Header.{Header}
 use Rattle.model.specs.declared.Kind.{Kind}
-use Rattle.model.specs.declared.Kind.TheVariants.{Ciphertext, Constant}
+use Rattle.model.specs.declared.Kind.TheVariants.{Ciphertext}
 use Rattle.model.specs.declared.Line.{Line}
 use Rattle.model.specs.declared.Line.TheVariants.{In, Const, Neg, Rot, Add, Mul, Out, Free}
 use Rattle.model.specs.Files.{is_word, operands, kind_at, is_usable, every_usable, is_ciphertext, is_pair}

@@ -27,7 +27,7 @@ use Rattle.text.proofs.Worked.{worked}
 -- the inverse for a reading that allows a grammar's lines, and of them few enough to keep
 module _ (c : Context) (Allowed : Table → Type 0) (limit_is : c.limit ≡ limit c.grammar)
     (kept_few : (t : Table) → TableFormed c.grammar t → Allowed t → kept_count (table_lines t) ≤ c.keptlimit)
-    (few-allowed : (t : Table) → kept_count (table_lines t) ≤ c.keptlimit → Allowed t) where
+    (few_allowed : (t : Table) → kept_count (table_lines t) ≤ c.keptlimit → Allowed t) where
   abbrev g : Grammar
   g = c.grammar
 
@@ -45,7 +45,7 @@ module _ (c : Context) (Allowed : Table → Type 0) (limit_is : c.limit ≡ limi
   read_written text t f e =
       let b = file_read_written c text e in
       let kept = and_second (leb (length (table_lines t)) c.limit) (leb (kept_count (table_lines t)) c.keptlimit) b.few in
-      record { formed = f; allowed = few-allowed t (leb→le (kept_count (table_lines t)) c.keptlimit kept); text_is = b.written }
+      record { formed = f; allowed = few_allowed t (leb→le (kept_count (table_lines t)) c.keptlimit kept); text_is = b.written }
 
   pub table_read : (text : Bytes) (t : Table) → RestFree t → t.count ≤ 1792 → read_text c text ≡ read (file_of t) → TableFormed g t
   table_read text t free most e =

@@ -86,7 +86,6 @@ fn header_len(word: &[u8], header: Header) -> usize
 }
 
 // ---- the line of a refusal
-#[tactic(auto)]
 pub fn put_refused(out: &mut [u8], at: usize, number: u32, place: u32) -> usize
     requires { at + length (text_of (said_text (ascii "refused") (pos number ∷ pos place ∷ []) ∷ [])) ≤ length out.old }
     ensures { Put out.old at (text_of (said_text (ascii "refused") (pos number ∷ pos place ∷ []) ∷ [])) result out.new }

@@ -1,13 +1,5 @@
-use Rattle.std.proofs.Common.{rules, ◌≡◌, map, ◌+◌, ◌≤◌, true, cond, T, pos, length, drop, ℕ, ◌-◌, ◌*◌, ◌<◌, ◌/◌, ◌%◌, Bool, false, nat_eq, nat_lt, List, [], ◌∷◌, ◌++◌, slice_index_or, slice_set, bit_and, bit_or, Fits, w8, w32, w64, Bor, MutBor, ℤ, ◌+ℤ◌, ◌-ℤ◌, ◌*ℤ◌, ◌≤ℤ◌, ◌<ℤ◌, FitsSigned, to_z, of_z}
-use Rattle.std.specs.Int.Signed.{non_neg}
-use Rattle.rows.specs.Rows.{place_of}
-use Rattle.model.specs.Scales.{header_in_range}
-use Rattle.forms.specs.Along.{line_in, numbers_in}
-use Rattle.forms.specs.Asked.{read_as, numbers_to}
+use Rattle.std.proofs.Common.{◌+◌, ◌≤◌, length}
 use Rattle.tables.specs.Records.{lines_held}
-use Rattle.words.specs.Words.{word_found, listed_word}
-use Rattle.judging.specs.Judging.{line_read, line_to}
-use Rattle.lines.specs.Lines.{turns_level, asked_by, level_held, word_judged}
 use Rattle.lines.proofs.read_line.Goals as goal
 use Rattle.lines.proofs.ReadLaws.{line_laws, past_within, held_few, line_judged_lem}
 

@@ -1,12 +1,4 @@
-use Rattle.std.proofs.Common.{arith, ◌≡◌, ◌+◌, ◌-◌, ◌<◌, T, get_or, ℕ, ◌*◌, ◌≤◌, length, ◌/◌, ◌%◌, Bool, true, false, nat_eq, nat_lt, List, [], ◌∷◌, ◌++◌, slice_set, bit_and, bit_or, Fits, w8, w32, w64, Bor, MutBor}
-use Rattle.model.specs.declared.Line.TheVariants.{Free}
-use Rattle.model.specs.declared.Grammar.TheVariants.{Schedule}
-use Rattle.model.specs.Scales.{header_in_range}
-use Rattle.text.specs.Tables.{TableFormed}
-use Rattle.listings.specs.Held.{is_downscale, counted_table}
-use Rattle.tables.specs.Records.{line_of, lines_of, lines_held, free_records, held}
-use Rattle.rules.specs.Scales.{DownscalesBelow}
-use Rattle.listingtable.specs.Conversion.{LineReady, becomes_lines, converted_by, ConvertedTo}
+use Rattle.std.proofs.Common.{arith, ◌≤◌}
 use Rattle.listingtable.proofs.convert.Goals as goal
 use Rattle.listingtable.proofs.convert.Goals.{in-One+else-at-ge1792, in-Two+else-at-ge1791}
 use Rattle.listingtable.proofs.Converting.{converting_laws}

@@ -1,13 +1,5 @@
-use Rattle.std.proofs.Common.{◌≡◌, ◌≤◌, ◌<◌, length, ℕ, ◌+◌, ◌-◌, ◌*◌, ◌/◌, ◌%◌, Bool, true, false, nat_eq, nat_lt, List, [], ◌∷◌, ◌++◌, slice_index_or, slice_set, bit_and, bit_or, Fits, w8, w32, w64, Bor, MutBor}
-use Rattle.model.specs.declared.Grammar.TheVariants.{Circuit}
-use Rattle.model.specs.Services.{plan}
-use Rattle.text.specs.Tables.{TableFormed, file_of}
-use Rattle.tables.specs.Records.{lines_held, free_records, held}
-use Rattle.conversions.specs.Operands.{operand_in}
-use Rattle.plantable.specs.Plans.{planned_of, number_told}
 use Rattle.plantable.proofs.plan_table.Goals as goal
 use Rattle.plantable.proofs.Planning.{plan_laws}
-use borrow.Author.Rules.{rules}
 
 -- src/lib.rt:68:5
 pub loop-i-init : goal.loop-i-init

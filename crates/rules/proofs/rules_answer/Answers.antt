@@ -1,9 +1,3 @@
-use Rattle.std.proofs.Common.{rules, ◌≡◌, ℕ, ◌+◌, ◌-◌, ◌*◌, ◌<◌, ◌≤◌, length, ◌/◌, ◌%◌, Bool, true, false, nat_eq, nat_lt, List, [], ◌∷◌, ◌++◌, slice_index_or, slice_set, bit_and, bit_or, Fits, w8, w32, w64, Bor, MutBor}
-use Rattle.model.specs.declared.Grammar.TheVariants.{Schedule}
-use Rattle.text.specs.Tables.{TableFormed}
-use Rattle.listings.specs.Held.{counted_table, held_answer}
-use Rattle.tables.specs.Records.{lines_held, held}
-use Rattle.rules.specs.Scales.{no_scales, LeavesScales}
 use Rattle.rules.proofs.rules_answer.Goals as goal
 use Rattle.rules.proofs.Checking.{loop_laws}
 

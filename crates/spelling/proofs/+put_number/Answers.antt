@@ -1,10 +1,6 @@
-use Rattle.std.proofs.Common.{◌≡◌, [], ◌∷◌, ◌+◌, ◌≤◌, ◌<◌, length, nat_abs, ℕ, ◌-◌, ◌*◌, ◌/◌, ◌%◌, Bool, true, false, nat_eq, nat_lt, List, ◌++◌, slice_index_or, slice_set, bit_and, bit_or, Fits, w8, w32, w64, Bor, MutBor}
-use Rattle.fields.specs.Pieces.{tab, join}
-use Rattle.fields.specs.Numbers.{decimal, amount_text}
-use Rattle.spelling.specs.Put.{Put, Counted, last_digit, is_negative}
 use Rattle.spelling.proofs.+put_number.Goals as goal
 use borrow.Author.Rules.{rules}
-use Rattle.spelling.proofs.Digits.{last_room, digit_puts}
+use Rattle.spelling.proofs.Digits.{digit_puts}
 
 ruleset laws = (rules, digit_puts)
 

@@ -1,4 +1,3 @@
-use Rattle.std.proofs.Common.{ℕ}
 use Rattle.spelling.proofs.+put_number.Given as goal
 
 -- The number falls.

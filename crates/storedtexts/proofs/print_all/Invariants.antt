@@ -1,4 +1,4 @@
-use Rattle.std.proofs.Common.{length, ◌-◌, ◌≤◌}
+use Rattle.std.proofs.Common.{length, ◌-◌}
 use Rattle.storedtexts.proofs.print_all.Given as goal
 
 abbrev pub decreases-loop-at : goal.decreases-loop-at
