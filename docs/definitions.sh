@@ -19,8 +19,7 @@ types() {
   while read -r file names; do
     printf '%5d  crates/%s\n' "$(awk -v names=" $names " '/^pub (struct|enum) /{inside=index(names, " " $3 " ")} inside && !/^[[:space:]]*(\/\/.*)?$/{n++} /^}/{inside=0} END{print n+0}' "$file")" "$file"
   done <<'TYPES'
-fields/src/lib.rt Field Amount
-model/src/lib.rt Headroom Header Word Line Grammar Kind Choice Best
+model/src/lib.rt Header Word Line Grammar Kind Choice Best
 text/src/lib.rt Context
 services/src/lib.rt Reply
 quotes/src/lib.rt QuoteReply

@@ -40,8 +40,8 @@ extern "C" {
  * holds one in a uint32_t. A larger one is refused with 11, and one of more than 11 digits with 1. */
 #define GOWASHIRU_MOST_CONSTANT 4294967295u
 
-/* The stack to give a thread. At most 39,704 bytes were measured on x86-64 (from rising; check 39,672, quote 34,632,
- * erase 32,696, plan 31,048, live 25,464, live after and live peak 25,432, to rising 21,784, may drop 18,312, least level 15,752) by
+/* The stack to give a thread. At most 39,704 bytes were measured on x86-64 (from rising; check 39,672, quote 34,664,
+ * erase 32,712, plan 31,128, live 25,384, live after 25,368, live peak 25,352, to rising 21,864, may drop 18,232, least level 15,608) by
  * tests/host/stack.c, on full files with the longest numbers in them. */
 #define GOWASHIRU_STACK_BYTES 131072
 

@@ -1,18 +1,18 @@
 // The bounds of a scale and a level: W ≤ scale, and scale and headroom ≤ F·level. Both may be below zero here, as after a rescale past zero.
 #![tactic(auto)]
 
-ghost use Rattle.std.specs.Prelude.{◌≡◌, ◌≤◌, T, pos, ◌+ℤ◌, ◌-ℤ◌, ◌*ℤ◌};
+ghost use Rattle.std.specs.Prelude.{◌≡◌, ◌≤◌, T, pos, ◌+ℤ◌, ◌-ℤ◌, ◌*ℤ◌, IfOk};
 ghost use Rattle.std.specs.Int.Signed.{le_z};
 ghost use Rattle.model.specs.Scales.{header_in_range, headroom};
-ghost use Rattle.bounds.specs.Bounded.{bounded_numbers, InReach, SmallRuled};
+ghost use Rattle.bounds.specs.Bounded.{stepped, bounded_numbers, InReach, Small};
 
-use model::Header;
+use model::{Fault, Header};
 
-// What the rules make of a line: the scale and the level that it then holds, or the number of the rule that it breaks.
+// The scale and the level that a line holds; a bare constant has neither, and both are 0.
 #[derive(Clone, Copy)]
-pub enum Ruled {
-    Goes { scale: u16, level: u16 },
-    Stops(u32),
+pub struct Held {
+    pub scale: u16,
+    pub level: u16,
 }
 
 // A number as a signed one.
@@ -39,6 +39,7 @@ fn reaches_waterline(header: Header, scale: i32) -> bool
     signed(header.waterline) <= scale
 }
 
+#[tactic(auto, using(crate::proofs::BoundLaws::modulus_test))]
 fn fits_modulus(header: Header, scale: i32, level: i32) -> bool
     requires t { T (header_in_range header) }
     requires in_reach { InReach scale level }
@@ -48,31 +49,31 @@ fn fits_modulus(header: Header, scale: i32, level: i32) -> bool
 }
 
 // 10, then 9, or the scale and the level.
-pub fn bounded(header: Header, scale: i32, level: i32) -> Ruled
+pub fn bounded(header: Header, scale: i32, level: i32) -> Result<Held, Fault>
     requires t { T (header_in_range header) }
     requires in_reach { InReach scale level }
-    ensures value { result ≡ bounded_numbers header scale level }
-    ensures small { SmallRuled result }
+    ensures value { stepped result ≡ bounded_numbers header scale level }
+    ensures small { IfOk result Small }
 {
     if !reaches_waterline(header, scale) {
-        return Ruled::Stops(10);
+        return Err(Fault::BelowWaterline);
     }
     if !fits_modulus(header, scale, level) {
-        return Ruled::Stops(9);
+        return Err(Fault::AboveModulus);
     }
-    Ruled::Goes {
+    Ok(Held {
         scale: scale as u16,
         level: level as u16,
-    }
+    })
 }
 
-// A scale and a level that are not below zero.
-pub fn bounded_natural(header: Header, scale: u32, level: u32) -> Ruled
+// A scale and a level that are not below zero: one line over the other function.
+pub fn bounded_natural(header: Header, scale: u32, level: u32) -> Result<Held, Fault>
     requires t { T (header_in_range header) }
     requires scale_bound { scale ≤ 7200 }
     requires level_bound { level ≤ 60 }
-    ensures value { result ≡ bounded_numbers header (pos scale) (pos level) }
-    ensures small { SmallRuled result }
+    ensures value { stepped result ≡ bounded_numbers header (pos scale) (pos level) }
+    ensures small { IfOk result Small }
 {
     bounded(header, signed(scale), signed(level))
 }

@@ -47,7 +47,7 @@ pub fn less_waterline(header: Header, reserve: i32) -> i32
 pub fn smaller_of(first: i32, second: i32) -> i32
     ensures { result ≡ smaller first second }
 {
-    if first <= second { first } else { second }
+    first.min(second)
 }
 
 // ---- no ciphertext operand, and one
@@ -78,6 +78,7 @@ pub fn unchanged_choice(header: Header, reserve: i32) -> Choice
     }
 }
 
+// Two functions, as document 01's plan has two definitions.
 pub fn times_constant_choice(header: Header, reserve: i32) -> Choice
     requires header_ranges { HeaderRanges header }
     requires small { Small reserve }

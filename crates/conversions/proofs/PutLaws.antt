@@ -1,6 +1,6 @@
 -- Lines written into a schedule: a law for each return and each need of the functions that write one line, the conversion lines of a
 -- ciphertext, and an operand. Assumes nothing.
-use Prim.Native.Nat.{ℕ, suc, ◌+◌, ◌-◌, ◌*◌, ◌/◌, ◌≤◌, ◌<◌, min}
+use Prim.Native.Nat.{ℕ, zero, suc, ◌+◌, ◌-◌, ◌*◌, ◌/◌, ◌≤◌, ◌<◌, min}
 use native.Mathlib.Nat.{min-le_left, min-le_right, mul-le-mul_right, div-add-mod'}
 use native.Mathlib.Omega.{arith}
 use mathlib.Core.Path.{◌≡◌, refl, sym, ap, ◌∙◌}
@@ -13,7 +13,7 @@ use lib.IntN.{ℤ, pos, negsuc, nat_abs, ◌-ℤ◌}
 use lib.ListN.{length, set, length-map, length-set}
 use lib.Seq.{length-take-le}
 use lib.Signed.{◌≤ℤ◌, non_neg}
-use mir.Syntax.{w32}
+use mir.Syntax.{w16, w32}
 use mir.Val.{Fits, SFits, to_z, of_z}
 use mir.ValLaws.{to_z-of_z}
 use Rattle.ints.specs.Parts.{positive}
@@ -21,20 +21,21 @@ use Rattle.ints.proofs.Linear.{is_positive, positive_sub}
 use Rattle.model.specs.declared.Header.{Header}
 use Rattle.model.specs.declared.Line.{Line}
 use Rattle.model.specs.declared.Line.TheVariants.{Enc, Rs, Ms, Us}
-use Rattle.model.specs.Plan.{emit, unless_zero, switches, convert, scale_for}
+use Rattle.model.specs.Plan.{Draft, emit, unless_zero, switches, convert, scale_for}
+use Rattle.tables.specs.declared.Record.{Record}
 use Rattle.tables.specs.Records.{line_of, lines_of, lines_held}
 use Rattle.tables.proofs.HeldLines.{stored_lines}
 use Rattle.conversions.specs.declared.Drafted.{Drafted}
 use Rattle.conversions.specs.declared.Operand.{Operand}
-use Rattle.conversions.specs.Drafts.{draft_of, Room, Wrote}
+use Rattle.conversions.specs.Drafts.{draft_of, line_unless_zero, Room, Wrote}
 use Rattle.conversions.specs.Operands.{supplied, Falls, Reaches}
 
 -- ---- one line
-module _ (records : List (List ℕ)) (count : ℕ) (room : Room records count 1) where
+module _ (records : List Record) (count : ℕ) (room : Room records count 1) where
   counted : length (lines_held records count) ≡ count
   counted = length-take-le count (lines_of records) (omega (arith, length-map records line_of))
 
-  pub line_put : (r : List ℕ) (x : Line) → line_of r ≡ x → Wrote (emit (lines_held records count) x) (count + 1) (record { count = count + 1; number = count }) (set records count r)
+  pub line_put : (r : Record) (x : Line) → line_of r ≡ x → Wrote (emit (lines_held records count) x) (count + 1) (record { count = count + 1; number = count }) (set records count r)
   line_put r x e =
       record {
         same = λ i. record { lines = stored_lines records count r x (omega arith) e i; number = sym counted i };
@@ -43,16 +44,24 @@ module _ (records : List (List ℕ)) (count : ℕ) (room : Room records count 1)
       }
 
 -- ---- one conversion line, or none
-module _ (word : ℕ → ℕ → Line) (records : List (List ℕ)) (d : Drafted) (n : ℕ) where
-  pub none_put : n ≡ 0 → Room records d.count 1 → Wrote (unless_zero word n (draft_of records d)) (d.count + 1) d records
+module _ (x : Line) (records : List Record) (d : Drafted) (n : ℕ) where
+  pub none_put : n ≡ 0 → Room records d.count 1 → Wrote (line_unless_zero n x (draft_of records d)) (d.count + 1) d records
+  unfolding line_unless_zero
   none_put e room = rw e (record { same = refl; few = omega arith; long = room.long })
 
-  pub some_put : (n ≡ 0 → ⊥) → (r : Drafted) (after : List (List ℕ)) → Wrote (emit (lines_held records d.count) (word d.number n)) (d.count + 1) r after
-      → Wrote (unless_zero word n (draft_of records d)) (d.count + 1) r after
-  some_put f r after w = rw some (rw some at w)
+  pub some_put : (n ≡ 0 → ⊥) → (r : Drafted) (after : List Record) → Wrote (emit (lines_held records d.count) x) (d.count + 1) r after
+      → Wrote (line_unless_zero n x (draft_of records d)) (d.count + 1) r after
+  unfolding line_unless_zero
+  some_put f r after w = rw some w
     where
       some : n ≡ suc (n - 1)
       some = omega arith
+
+-- of the draft that it is for
+unless_zero_is : (word : ℕ → ℕ → Line) (n : ℕ) (d : Draft) → line_unless_zero n (word d.number n) d ≡ unless_zero word n d
+unfolding line_unless_zero
+unless_zero_is word zero d = refl
+unless_zero_is word (suc n) d = refl
 
 -- ---- what takes d bits of reserve and so many levels
 module _ (h : Header) (d levels q : ℕ) (e : q ≡ min (d / h.factor) levels) where
@@ -65,17 +74,30 @@ module _ (h : Header) (d levels q : ℕ) (e : q ≡ min (d / h.factor) levels) w
   pub switches_few : q ≤ levels
   switches_few = omega (arith, min-le_right (d / h.factor) levels)
 
+  pub switches_small : levels ≤ 60 → Fits w16 q
+  switches_small f = record { fits = omega (arith, switches_few) }
+
   pub conversion_put :
-      (records one two three : List (List ℕ)) (draft a b r : Drafted) → Wrote (unless_zero Ms q (draft_of records draft)) (draft.count + 1) a one →
-      Wrote (unless_zero Us (d - q * h.factor) (draft_of one a)) (a.count + 1) b two → Wrote (unless_zero Rs (levels - q) (draft_of two b)) (b.count + 1) r three →
+      (records one two three : List Record) (draft a b r : Drafted) → Wrote (line_unless_zero q (Ms draft.number q) (draft_of records draft)) (draft.count + 1) a one →
+      Wrote (line_unless_zero (d - q * h.factor) (Us a.number (d - q * h.factor)) (draft_of one a)) (a.count + 1) b two →
+      Wrote (line_unless_zero (levels - q) (Rs b.number (levels - q)) (draft_of two b)) (b.count + 1) r three →
       Wrote (convert h d levels (switches h d levels) (draft_of records draft)) (draft.count + 3) r three
   conversion_put records one two three draft a b r u v w =
       rw (← e)
       (record {
-        same = w.same ∙ ap (unless_zero Rs (levels - q)) (v.same ∙ ap (unless_zero Us (d - q * h.factor)) u.same);
+        same = w.same ∙ unless_zero_is Rs (levels - q) (draft_of two b)
+            ∙ ap (unless_zero Rs (levels - q)) (v.same ∙ unless_zero_is Us (d - q * h.factor) (draft_of one a)
+            ∙ ap (unless_zero Us (d - q * h.factor)) (u.same ∙ unless_zero_is Ms q (draft_of records draft)));
         few = omega (arith, u.few, v.few, w.few);
         long = w.long;
       })
+
+-- what is left over
+pub bits_small : (d n : ℕ) → d ≤ 3600 → Fits w16 (d - n)
+bits_small d n f = record { fits = omega arith }
+
+pub levels_small : (l n : ℕ) → l ≤ 60 → Fits w16 (l - n)
+levels_small l n f = record { fits = omega arith }
 
 -- ---- a reserve that is not below zero
 whole_read : (z : ℤ) → pos 0 ≤ℤ z → T (non_neg z)
@@ -119,7 +141,7 @@ module _ (h : Header) (o : Operand) (r : ℤ) (l : ℕ) (R : Reaches h o r l) (s
   scale_left = omega (arith, kept, R.below)
 
   pub encoded_put :
-      not o.ciphertext ≡ true → (records after : List (List ℕ)) (count : ℕ) (d : Drafted) → Room records count 3 →
+      not o.ciphertext ≡ true → (records after : List Record) (count : ℕ) (d : Drafted) → Room records count 3 →
       Wrote (emit (lines_held records count) (Enc o.number (h.factor * l - k) l)) (count + 1) d after →
       Wrote (supplied h o r l (lines_held records count)) (count + 3) d after
   encoded_put c records after count d room w =
@@ -152,7 +174,7 @@ module _ (h : Header) (o : Operand) (r : ℤ) (l : ℕ) (R : Reaches h o r l) (s
         distance_few = omega (arith, more, falls.most)
 
         pub converted_put :
-            (records after : List (List ℕ)) (count : ℕ) (d : Drafted) →
+            (records after : List Record) (count : ℕ) (d : Drafted) →
             Wrote (convert h (m - k) (o.level - l) (switches h (m - k) (o.level - l)) (draft_of records (record { count = count; number = o.number }))) (count + 3) d after →
             Wrote (supplied h o r l (lines_held records count)) (count + 3) d after
         converted_put records after count d w =
@@ -169,6 +191,9 @@ pub ruleset put_laws = (
   switches_below,
   switches_fit,
   switches_few,
+  switches_small,
+  bits_small,
+  levels_small,
   conversion_put,
   cast_whole,
   cast_is,

@@ -1,64 +1,72 @@
 -- A listing that is converted, step by step: what each return says, from the tests on the way and what the callees ensure. Assumes nothing.
 use Prim.Native.Nat.{ℕ, ◌≤◌}
 use native.Mathlib.Omega.{arith}
-use mathlib.Core.Path.{◌≡◌, refl, sym, ap, ◌∙◌, subst}
+use mathlib.Core.Path.{◌≡◌, refl, sym, ap, ap₂, ◌∙◌, subst}
 use mathlib.Core.List.{List}
 use borrow.Author.Rules.{rules}
 use lib.ListN.{get_or}
 use Rattle.fields.specs.Pieces.{Bytes}
-use Rattle.model.specs.declared.Answer.{Answer}
-use Rattle.model.specs.declared.Answer.TheVariants.{Done, Level, Refused}
+use Rattle.std.specs.Prelude.{IfOk}
+use Rattle.model.specs.declared.Fault.{Fault}
+use Rattle.model.specs.Refusals.{verdict_answer}
+use Rattle.tables.specs.declared.Record.{Record}
+use Rattle.tables.specs.declared.files.ListingTable.{ListingTable}
+use Rattle.tables.specs.Files.{listing_lines, listing_held}
+use Rattle.replies.specs.Told.{reply_to}
 use Rattle.model.specs.declared.Grammar.TheVariants.{Schedule}
-use Rattle.model.specs.declared.Header.{Header}
 use Rattle.model.specs.declared.Line.{Line}
 use Rattle.model.specs.Files.{File}
 use Rattle.text.specs.Files.{file_text}
-use Rattle.text.specs.Tables.{TableFormed, file_of}
+use Rattle.text.specs.Tables.{file_of}
 use Rattle.listings.specs.Listings.{read_listing}
-use Rattle.listings.specs.Held.{held_reading, counted_table, held_answer, found_scales}
-use Rattle.tables.specs.Records.{lines_held, held}
+use Rattle.listings.specs.Held.{held_reading, held_answer, found_scales}
+use Rattle.tables.specs.Records.{held}
 use Rattle.tables.proofs.Records.{still_long}
-use Rattle.reader.specs.declared.FileRead.{FileRead}
-use Rattle.reader.specs.declared.FileRead.TheVariants as Read
-use Rattle.reader.specs.Reads.{reading_of, Filled}
-use Rattle.reader.proofs.Answers.{few_read, listing_formed}
-use Rattle.rules.specs.Scales.{ScalesLeft, LeavesScales, DownscalesBelow}
-use Rattle.rules.proofs.Downscales.{done_left, done_below}
-use Rattle.listingtable.specs.declared.Converted.{Converted}
-use Rattle.listingtable.specs.declared.Converted.TheVariants.{Lines, Full}
+use Rattle.std.specs.Prelude.{Result, Ok, Err}
+use Rattle.model.specs.declared.Refusal.{Refusal}
+use Rattle.model.specs.Refusals.{number_of}
+use Rattle.reader.specs.Reads.{listing_told}
+use Rattle.rules.specs.Scales.{ScalesLeft}
 use Rattle.listingtable.specs.Conversion.{HoldsConverted, NoRoom, ConvertedTo}
 use Rattle.listingtable.proofs.SameScales.{converted_found}
-use Rattle.services.specs.declared.Reply.{Reply}
-use Rattle.services.specs.Outcomes.{Outcome, writes, refuses, reply_of, Replied}
+use Rattle.services.specs.Outcomes.{Outcome, writes, refuses, Replied}
 use Rattle.services.specs.Calls.{converted_outcome, ruled_outcome, from_rising_outcome}
 use Rattle.services.proofs.Steps.{once_read_lem, once_refused, replied_as, refusal_replied}
 use Rattle.services.proofs.Converting.{fits_told, full_told}
 
 -- ---- the schedule
-module _ (h : Header) (listing : List (List ℕ)) (count : ℕ) (formed : TableFormed Schedule (counted_table (held h listing count))) (scales : List ℕ)
-    (left : ScalesLeft h (lines_held listing count) scales) (d : Converted) (records : List (List ℕ))
-    (to : ConvertedTo h (λ a. get_or scales a 0) (lines_held listing count) d records) where
+module _
+    (t : ListingTable) (scales : List ℕ) (left : ScalesLeft t.header (listing_lines t) scales) (d : Result ℕ Refusal) (records : List Record)
+    (to : ConvertedTo t.header (λ a. get_or scales a 0) (listing_lines t) d records) where
   abbrev lines : List Line
-  lines = lines_held listing count
+  lines = listing_lines t
+
+  abbrev scale : ℕ → ℕ
+  scale = found_scales t.header lines
 
   -- with the scales that the rules found
-  found : (x : Converted) → d ≡ x → ConvertedTo h (found_scales h lines) lines x records
+  found : (x : Result ℕ Refusal) → d ≡ x → ConvertedTo t.header scale lines x records
   found x e =
-      subst (λ (y : Converted). ConvertedTo h (found_scales h lines) lines y records) e (converted_found h listing count formed scales left d records to)
+      subst (λ (y : Result ℕ Refusal). ConvertedTo t.header scale lines y records) e
+      (converted_found t.header t.records.now t.count t.formed scales left d records to)
 
-  pub size_few : (n : ℕ) → d ≡ Lines n → n ≤ 1792
-  size_few n e = (found (Lines n) e).few
+  pub size_few : (n : ℕ) → d ≡ Ok n → n ≤ 1792
+  size_few n e = (found (Ok n) e).few
 
-  pub lines_fit : (n : ℕ) → d ≡ Lines n → writes (file_text Schedule (file_of (held h records n))) ≡ converted_outcome h (found_scales h lines) lines
+  pub lines_fit : (n : ℕ) → d ≡ Ok n → writes (file_text Schedule (file_of (held t.header records n))) ≡ converted_outcome t.header scale lines
   lines_fit n e =
-      let all : HoldsConverted h (found_scales h lines) lines n records = found (Lines n) e in
-      ap (λ (l : List Line). writes (file_text Schedule (record { header = h; lines = l }))) all.held
-      ∙ fits_told h (found_scales h lines) lines (omega (arith, all.long, all.few))
+      let all : HoldsConverted t.header scale lines n records = found (Ok n) e in
+      ap (λ (l : List Line). writes (file_text Schedule (record { header = t.header; lines = l }))) all.held
+      ∙ fits_told t.header scale lines (omega (arith, all.long, all.few))
 
-  pub lines_full : (out : Bytes) (r : Reply) (p : ℕ) → d ≡ Full p → r ≡ reply_of (refuses 3 1 p) → Replied (converted_outcome h (found_scales h lines) lines) out r out
-  lines_full out r p e w =
-      let none : NoRoom h (found_scales h lines) lines p = found (Full p) e in
-      replied_as (ap (refuses 3 1) none.place_is ∙ full_told h (found_scales h lines) lines none.line_number none.before none.with_it) (refusal_replied 3 1 p out r w)
+  pub lines_full :
+      (out : Bytes) (x : Refusal) → d ≡ Err x → Replied (converted_outcome t.header scale lines) out (reply_to (Err (record { file = 1; refusal = x }))) out
+  lines_full out x e =
+      let none : NoRoom t.header scale lines x = found (Err x) e in
+      replied_as
+      (ap₂ (λ (f : Fault) (p : ℕ). refuses (number_of f) 1 p) none.fault_is none.place_is
+      ∙ full_told t.header scale lines none.line_number none.before none.with_it)
+      (refusal_replied (number_of x.fault) 1 x.place out _ refl)
 
 pub ruleset schedule_needs = (rules, still_long, size_few)
 
@@ -68,39 +76,31 @@ pub ruleset schedule_returns = (lines_fit, lines_full)
 abbrev ruled_file : File → Outcome
 ruled_file f = ruled_outcome f.header f.lines (held_answer f.header f.lines)
 
-module _ (listing : Bytes) (file : FileRead) (records : List (List ℕ)) (q : reading_of file records ≡ held_reading (read_listing listing)) where
-  pub unread : (out : Bytes) (r : Reply) (n p : ℕ) → file ≡ Read.Refused n p → r ≡ reply_of (refuses n 1 p) → Replied (from_rising_outcome listing) out r out
-  unread out r n p is e =
-      replied_as (once_refused 1 ruled_file n p (sym q ∙ ap (λ (x : FileRead). reading_of x records) is)) (refusal_replied n 1 p out r e)
+module _ (listing : Bytes) (file : Result ListingTable Refusal) (q : listing_told file ≡ held_reading (read_listing listing)) where
+  pub unread : (out : Bytes) (x : Refusal) → file ≡ Err x → Replied (from_rising_outcome listing) out (reply_to (Err (record { file = 1; refusal = x }))) out
+  unread out x is =
+      replied_as (once_refused 1 ruled_file (number_of x.fault) x.place (sym q ∙ ap listing_told is)) (refusal_replied (number_of x.fault) 1 x.place out _ refl)
 
-  module _ (h : Header) (count : ℕ) (is : file ≡ Read.Table h count) where
-    abbrev held_lines_lem : List Line
-    held_lines_lem = lines_held records count
+  module _ (t : ListingTable) (is : file ≡ Ok t) (v : Result Unit Refusal) (told : verdict_answer v ≡ held_answer t.header (listing_lines t)) where
+    outcome_is : ruled_outcome t.header (listing_lines t) (verdict_answer v) ≡ from_rising_outcome listing
+    outcome_is = ap (ruled_outcome t.header (listing_lines t)) told ∙ once_read_lem 1 ruled_file (file_of (listing_held t)) (sym q ∙ ap listing_told is)
 
-    module _ (a : Answer) (told : a ≡ held_answer h held_lines_lem) where
-      outcome_is : ruled_outcome h held_lines_lem a ≡ from_rising_outcome listing
-      outcome_is = ap (ruled_outcome h held_lines_lem) told ∙ once_read_lem 1 ruled_file (file_of (held h records count)) (sym q ∙ ap (λ (x : FileRead). reading_of x records) is)
+    verdict_is : (x : Result Unit Refusal) → v ≡ x → ruled_outcome t.header (listing_lines t) (verdict_answer x) ≡ from_rising_outcome listing
+    verdict_is x e = subst (λ (y : Result Unit Refusal). ruled_outcome t.header (listing_lines t) (verdict_answer y) ≡ from_rising_outcome listing) e outcome_is
 
-      pub broken : (out : Bytes) (r : Reply) (n p : ℕ) → a ≡ Refused n p → r ≡ reply_of (refuses n 1 p) → Replied (from_rising_outcome listing) out r out
-      broken out r n p e w = replied_as (ap (ruled_outcome h held_lines_lem) (sym e) ∙ outcome_is) (refusal_replied n 1 p out r w)
+    pub broken : (out : Bytes) (x : Refusal) → v ≡ Err x → Replied (from_rising_outcome listing) out (reply_to (Err (record { file = 1; refusal = x }))) out
+    broken out x e = replied_as (verdict_is (Err x) e) (refusal_replied (number_of x.fault) 1 x.place out _ refl)
 
-      -- the rules give no level
-      pub no_level_lem : (out : Bytes) (r : Reply) (l : ℕ) → a ≡ Level l → r ≡ reply_of (refuses 0 0 0) → Replied (from_rising_outcome listing) out r out
-      no_level_lem out r l e w = replied_as (ap (ruled_outcome h held_lines_lem) (sym e) ∙ outcome_is) (record { reply = w; bytes = refl })
+    pub all_kept : (u : Unit {0}) → v ≡ Ok u → converted_outcome t.header (found_scales t.header (listing_lines t)) (listing_lines t) ≡ from_rising_outcome listing
+    all_kept u e = verdict_is (Ok u) e
 
-      module _ (full : Filled 1792 file records) (e : a ≡ Done) (scales : List ℕ) (leaves : LeavesScales h held_lines_lem scales a) where
-        formed : TableFormed Schedule (counted_table (held h records count))
-        formed = listing_formed listing file records q h count is full
+-- what the rules leave behind
+module _
+    (t : ListingTable) (v : Result Unit Refusal) (scales : List ℕ)
+    (leaves : IfOk v (λ u. ScalesLeft t.header (listing_lines t) scales)) (u : Unit {0}) (is : v ≡ Ok u) where
+  pub left : ScalesLeft t.header (listing_lines t) scales
+  left = subst (λ (x : Result Unit Refusal). IfOk x (λ u. ScalesLeft t.header (listing_lines t) scales)) is leaves
 
-        pub below : DownscalesBelow h held_lines_lem scales
-        below = done_below h records count formed a scales told leaves e
+pub ruleset step_needs = (rules, left)
 
-        pub left : ScalesLeft h held_lines_lem scales
-        left = done_left h records count formed a scales told leaves e
-
-      pub converted : a ≡ Done → converted_outcome h (found_scales h held_lines_lem) held_lines_lem ≡ from_rising_outcome listing
-      converted e = ap (ruled_outcome h held_lines_lem) (sym e) ∙ outcome_is
-
-pub ruleset step_needs = (rules, still_long, few_read, listing_formed, below, left)
-
-pub ruleset step_returns = (unread, broken, no_level_lem, converted)
+pub ruleset step_returns = (unread, broken, all_kept)

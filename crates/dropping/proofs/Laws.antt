@@ -12,17 +12,18 @@ use lib.ListN.{length, get_or, drop}
 use mir.Syntax.{w32, w64}
 use mir.Val.{Fits}
 use Rattle.fields.specs.Pieces.{Bytes}
-use Rattle.model.specs.declared.Header.{Header}
 use Rattle.model.specs.declared.Line.{Line}
 use Rattle.model.specs.Files.{File}
 use Rattle.text.specs.Files.{read_text, schedule_context}
 use Rattle.text.specs.Tables.{file_of}
-use Rattle.tables.specs.Records.{lines_held, held, IsSchedule}
-use Rattle.tables.proofs.Records.{still_long}
-use Rattle.reader.specs.declared.FileRead.{FileRead}
-use Rattle.reader.specs.declared.FileRead.TheVariants as Read
-use Rattle.reader.specs.Reads.{reading_of, Filled}
-use Rattle.reader.proofs.Answers.{read_refused, read_file_lem, schedule_formed}
+use Rattle.tables.specs.declared.Record.{Record}
+use Rattle.tables.specs.Records.{lines_held, IsSchedule}
+use Rattle.std.specs.Prelude.{Result, Ok, Err}
+use Rattle.model.specs.declared.Refusal.{Refusal}
+use Rattle.model.specs.Refusals.{number_of}
+use Rattle.tables.specs.declared.files.ScheduleTable.{ScheduleTable}
+use Rattle.tables.specs.Files.{schedule_held}
+use Rattle.reader.specs.Reads.{schedule_told}
 use Rattle.spelling.specs.Put.{Put}
 use Rattle.services.specs.declared.Reply.{Reply}
 use Rattle.services.specs.Outcomes.{Outcome, writes, tells, refuses, reply_of, Replied}
@@ -38,12 +39,7 @@ use Rattle.dropping.specs.Calls.{drop_answer, count_after}
 use Rattle.dropping.proofs.Tests.{and_false}
 
 -- ---- a schedule that was read
-pub is_schedule :
-    (text : Bytes) (r : FileRead) (records : List (List ℕ)) (h : Header) (count : ℕ) → r ≡ Read.Table h count →
-    reading_of r records ≡ read_text schedule_context text → Filled 1792 r records → IsSchedule records count
-is_schedule text r records h count e q f = record { header = h; formed = schedule_formed text r records h count e q f }
-
-module _ (records : List (List ℕ)) (count : ℕ) (t : IsSchedule records count) where
+module _ (records : List Record) (count : ℕ) (t : IsSchedule records count) where
   abbrev lines : List Line
   lines = lines_held records count
 
@@ -168,27 +164,25 @@ pub ruleset table_laws = (
 )
 
 -- ---- its text
-module _ (text : Bytes) (more : File → Outcome) (file : FileRead) (records : List (List ℕ)) (q : reading_of file records ≡ read_text schedule_context text) where
+module _ (text : Bytes) (more : File → Outcome) (file : Result ScheduleTable Refusal) (q : schedule_told file ≡ read_text schedule_context text) where
   abbrev call : Outcome
   call = once_read 1 (read_text schedule_context text) more
 
-  pub unread : (r : Reply) (n p : ℕ) → file ≡ Read.Refused n p → r ≡ reply_of (refuses n 1 p) → r ≡ reply_of call
-  unread r n p is e = e ∙ ap reply_of (once_refused 1 more n p (read_refused schedule_context text file records q n p is))
+  pub unread : (r : Reply) (x : Refusal) → file ≡ Err x → r ≡ reply_of (refuses (number_of x.fault) 1 x.place) → r ≡ reply_of call
+  unread r x is e = e ∙ ap reply_of (once_refused 1 more (number_of x.fault) x.place (sym q ∙ ap schedule_told is))
 
-  pub unread_lent : (out : Bytes) (r : Reply) (n p : ℕ) → file ≡ Read.Refused n p → r ≡ reply_of (refuses n 1 p) → Replied call out r out
-  unread_lent out r n p is e =
-      replied_as (once_refused 1 more n p (read_refused schedule_context text file records q n p is)) (refusal_replied n 1 p out r e)
+  pub unread_lent : (out : Bytes) (r : Reply) (x : Refusal) → file ≡ Err x → r ≡ reply_of (refuses (number_of x.fault) 1 x.place) → Replied call out r out
+  unread_lent out r x is e =
+      replied_as (once_refused 1 more (number_of x.fault) x.place (sym q ∙ ap schedule_told is)) (refusal_replied (number_of x.fault) 1 x.place out r e)
 
-  module _ (h : Header) (count : ℕ) (is : file ≡ Read.Table h count) where
-    comes_to : more (file_of (held h records count)) ≡ call
-    comes_to = once_read_lem 1 more (file_of (held h records count)) (read_file_lem schedule_context text file records q h count is)
+  module _ (t : ScheduleTable) (is : file ≡ Ok t) where
+    comes_to : more (file_of (schedule_held t)) ≡ call
+    comes_to = once_read_lem 1 more (file_of (schedule_held t)) (sym q ∙ ap schedule_told is)
 
-    pub was_read : (r : Reply) → r ≡ reply_of (more (file_of (held h records count))) → r ≡ reply_of call
+    pub was_read : (r : Reply) → r ≡ reply_of (more (file_of (schedule_held t))) → r ≡ reply_of call
     was_read r e = e ∙ ap reply_of comes_to
 
-    pub was_lent : (out : Bytes) (r : Reply) (after : Bytes) → Replied (more (file_of (held h records count))) out r after → Replied call out r after
+    pub was_lent : (out : Bytes) (r : Reply) (after : Bytes) → Replied (more (file_of (schedule_held t))) out r after → Replied call out r after
     was_lent out r after a = replied_as comes_to a
-
-pub ruleset text_needs = (rules, still_long, is_schedule)
 
 pub ruleset text_returns = (unread, unread_lent, was_read, was_lent)

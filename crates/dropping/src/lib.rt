@@ -2,30 +2,42 @@
 #![tactic(auto)]
 
 ghost use Rattle.std.specs.Prelude.{◌≡◌};
-ghost use Rattle.tables.specs.Records.{lines_held, IsSchedule};
+ghost use Rattle.tables.specs.Files.{schedule_lines};
 ghost use Rattle.services.specs.Outcomes.{writes, tells, reply_of, Replied};
 ghost use Rattle.liveness.specs.Live.{live_bytes};
 ghost use Rattle.liveness.specs.Kept.{peak_of};
 ghost use Rattle.dropping.specs.Calls.{drop_answer, count_after, may_drop_outcome, live_after_outcome, live_peak_outcome, live_outcome};
 
-use reader::FileRead;
+use liveness::Liveness;
+use model::{Fault, Refusal};
 use services::Reply;
-use tables::Record;
+use tables::files::ScheduleTable;
+
+// A line or a value that the schedule lacks.
+const LACKING: Refusal = Refusal {
+    fault: Fault::NoUsableLine,
+    place: 0,
+};
+
+const TOO_SHORT: Refusal = Refusal {
+    fault: Fault::BufferTooShort,
+    place: 0,
+};
 
 // ---- on a schedule that was read
 // The answer from the value's one entry.
-fn drop_answer(schedule: &[Record], count: usize, value: u32, line: u32) -> Reply
-    requires { IsSchedule schedule.now count }
-    ensures { result ≡ reply_of (drop_answer value line (lines_held schedule.now count)) }
+#[tactic(auto, using(crate::proofs::Laws::table_laws))]
+fn drop_answer(schedule: &ScheduleTable, value: u32, line: u32) -> Reply
+    ensures { result ≡ reply_of (drop_answer value line (schedule_lines schedule.now)) }
 {
-    if (count as u64) <= (value as u64) {
-        return replies::refusal(4, 0, 0);
+    if (schedule.count as u64) <= (value as u64) {
+        return replies::refused(0, LACKING);
     }
-    if (count as u64) <= (line as u64) {
-        return replies::refusal(4, 0, 0);
+    if (schedule.count as u64) <= (line as u64) {
+        return replies::refused(0, LACKING);
     }
     let mut entries = [0u16; 1792];
-    liveness::fill_entries(schedule, count, &mut entries);
+    liveness::fill_entries(schedule, &mut entries);
     if (entries[value as usize] as u32) <= line {
         return replies::told(1);
     }
@@ -33,89 +45,96 @@ fn drop_answer(schedule: &[Record], count: usize, value: u32, line: u32) -> Repl
 }
 
 // The count after a line.
-fn count_after(schedule: &[Record], count: usize, line: u32) -> Reply
-    requires { IsSchedule schedule.now count }
-    ensures { result ≡ reply_of (count_after line (lines_held schedule.now count)) }
+#[tactic(auto, using(crate::proofs::Laws::table_laws))]
+fn count_after(schedule: &ScheduleTable, line: u32) -> Reply
+    ensures { result ≡ reply_of (count_after line (schedule_lines schedule.now)) }
 {
-    if (count as u64) <= (line as u64) {
-        return replies::refusal(4, 0, 0);
+    if (schedule.count as u64) <= (line as u64) {
+        return replies::refused(0, LACKING);
     }
-    let mut entries = [0u16; 1792];
-    let mut counts = [0u16; 1792];
-    liveness::fill_entries(schedule, count, &mut entries);
-    liveness::fill_counts(schedule, count, &entries, &mut counts);
-    replies::told(counts[line as usize] as u32)
+    let mut live = Liveness {
+        entries: [0u16; 1792],
+        counts: [0u16; 1792],
+    };
+    live.fill(schedule);
+    replies::told(live.counts[line as usize] as u32)
 }
 
 // The largest count.
-fn largest_count(schedule: &[Record], count: usize) -> Reply
-    requires { IsSchedule schedule.now count }
-    ensures { result ≡ reply_of (tells (peak_of (lines_held schedule.now count))) }
+#[tactic(auto, using(crate::proofs::Laws::table_laws))]
+fn largest_count(schedule: &ScheduleTable) -> Reply
+    ensures { result ≡ reply_of (tells (peak_of (schedule_lines schedule.now))) }
 {
-    let mut entries = [0u16; 1792];
-    let mut counts = [0u16; 1792];
-    liveness::fill_entries(schedule, count, &mut entries);
-    liveness::fill_counts(schedule, count, &entries, &mut counts);
-    replies::told(liveness::largest(&counts, count) as u32)
+    let mut live = Liveness {
+        entries: [0u16; 1792],
+        counts: [0u16; 1792],
+    };
+    live.fill(schedule);
+    replies::told(liveness::largest(&live.counts, schedule.count) as u32)
 }
 
 // Entries and counts, four bytes for each value, written only when they are known to fit.
-fn lend_live(out: &mut [u8], schedule: &[Record], count: usize) -> Reply
-    requires { IsSchedule schedule.now count }
-    ensures { Replied (writes (live_bytes (lines_held schedule.now count))) out.old result out.new }
+#[tactic(auto, using(crate::proofs::Laws::table_laws))]
+fn lend_live(out: &mut [u8], schedule: &ScheduleTable) -> Reply
+    ensures { Replied (writes (live_bytes (schedule_lines schedule.now))) out.old result out.new }
 {
-    if out.len() < 4 * count {
-        return replies::refusal(13, 0, 0);
+    if out.len() < 4 * schedule.count {
+        return replies::refused(0, TOO_SHORT);
     }
-    let mut entries = [0u16; 1792];
-    let mut counts = [0u16; 1792];
-    liveness::fill_entries(schedule, count, &mut entries);
-    liveness::fill_counts(schedule, count, &entries, &mut counts);
-    let written = liveness::put_live(out, &entries, &counts, count);
+    let mut live = Liveness {
+        entries: [0u16; 1792],
+        counts: [0u16; 1792],
+    };
+    live.fill(schedule);
+    let written = liveness::put_live(out, &live.entries, &live.counts, schedule.count);
     replies::told(written as u32)
 }
 
-// ---- on its text
+// ---- on its text: a `match` of two arms each, since with `?` each would want a function more
 // Whether a value may be dropped after a line.
+#[tactic(auto, using(crate::proofs::Laws::text_returns))]
 pub fn may_drop(schedule: &[u8], value: u32, line: u32) -> Reply
     ensures { result ≡ reply_of (may_drop_outcome schedule.now value line) }
 {
     let mut records = [tables::FREE; 1792];
-    match reader::read_schedule(schedule, &mut records) {
-        FileRead::Refused { number, place } => replies::refusal(number, 1, place),
-        FileRead::Table { count, .. } => drop_answer(&records, count, value, line),
+    match reader::lend_schedule(schedule, &mut records) {
+        Err(refusal) => replies::refused(1, refusal),
+        Ok(table) => drop_answer(&table, value, line),
     }
 }
 
 // How many ciphertexts are live after a line.
+#[tactic(auto, using(crate::proofs::Laws::text_returns))]
 pub fn live_after(schedule: &[u8], line: u32) -> Reply
     ensures { result ≡ reply_of (live_after_outcome schedule.now line) }
 {
     let mut records = [tables::FREE; 1792];
-    match reader::read_schedule(schedule, &mut records) {
-        FileRead::Refused { number, place } => replies::refusal(number, 1, place),
-        FileRead::Table { count, .. } => count_after(&records, count, line),
+    match reader::lend_schedule(schedule, &mut records) {
+        Err(refusal) => replies::refused(1, refusal),
+        Ok(table) => count_after(&table, line),
     }
 }
 
 // How many are live at most.
+#[tactic(auto, using(crate::proofs::Laws::text_returns))]
 pub fn live_peak(schedule: &[u8]) -> Reply
     ensures { result ≡ reply_of (live_peak_outcome schedule.now) }
 {
     let mut records = [tables::FREE; 1792];
-    match reader::read_schedule(schedule, &mut records) {
-        FileRead::Refused { number, place } => replies::refusal(number, 1, place),
-        FileRead::Table { count, .. } => largest_count(&records, count),
+    match reader::lend_schedule(schedule, &mut records) {
+        Err(refusal) => replies::refused(1, refusal),
+        Ok(table) => largest_count(&table),
     }
 }
 
 // The entry of each value and the count after its line.
+#[tactic(auto, using(crate::proofs::Laws::text_returns))]
 pub fn live(schedule: &[u8], out: &mut [u8]) -> Reply
     ensures { Replied (live_outcome schedule.now) out.old result out.new }
 {
     let mut records = [tables::FREE; 1792];
-    match reader::read_schedule(schedule, &mut records) {
-        FileRead::Refused { number, place } => replies::refusal(number, 1, place),
-        FileRead::Table { count, .. } => lend_live(out, &records, count),
+    match reader::lend_schedule(schedule, &mut records) {
+        Err(refusal) => replies::refused(1, refusal),
+        Ok(table) => lend_live(out, &table),
     }
 }

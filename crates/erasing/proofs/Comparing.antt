@@ -22,27 +22,29 @@ use Rattle.model.specs.Services.{erase}
 use Rattle.model.specs.Answers.{same_line, same_header, compared, rules_answer, check}
 use Rattle.model.proofs.Tests.{below_or_not}
 use Rattle.text.specs.Tables.{TableFormed, file_of}
-use Rattle.tables.specs.Records.{line_of, lines_of, lines_held, held}
+use Rattle.tables.specs.declared.Record.{Record}
+use Rattle.tables.specs.Records.{free_record, line_of, lines_of, lines_held, held}
 use Rattle.tables.proofs.Words.{record_held}
 use Rattle.tables.proofs.HeldLines.{formed_few, formed_long, records_long, next_line_lem, no_line_lem}
-use Rattle.erasing.specs.declared.Compared.{Compared}
-use Rattle.erasing.specs.declared.Compared.TheVariants.{Differs}
+use Rattle.std.specs.Prelude.{Result, Err}
+use Rattle.model.specs.declared.Fault.TheVariants.{AnotherCircuit}
+use Rattle.model.specs.declared.Refusal.{Refusal}
 use Rattle.erasing.specs.Comparing.{after_compared, begin_with}
 use Rattle.erasing.specs.declared.Erased.{Erased}
 use Rattle.erasing.specs.declared.Erased.TheVariants.{Kept, Struck}
 use Rattle.erasing.specs.Lines.{erased_to, erased_by}
-use Rattle.erasing.proofs.Walking.{Walking, rest_of, walk_start, none_left, place_fits, line_there, word_known, first_small, second_small, walk_on, rest_kept, rest_struck}
+use Rattle.erasing.proofs.Walking.{Walking, rest_of, walk_start, none_left, place_fits, walk_on, rest_kept, rest_struck}
 
 -- ---- a circuit's next line
-module _ (circuit : List (List ℕ)) (size at : ℕ) (long : length circuit ≡ 1792) (few : size ≤ 1792) where
+module _ (circuit : List Record) (size at : ℕ) (long : length circuit ≡ 1792) (few : size ≤ 1792) where
   pub circuit_ends : (x : Line) → size ≤ at → false ≡ begin_with (drop at (lines_held circuit size)) x
   circuit_ends x l = rw (no_line_lem (lines_of circuit) size (records_long circuit long) few at l)
 
   pub circuit_goes_on :
-      (x : Line) (b : Bool) → at < size → b ≡ same_line (line_of (get_or circuit at [])) x → b ≡ begin_with (drop at (lines_held circuit size)) x
+      (x : Line) (b : Bool) → at < size → b ≡ same_line (line_of (get_or circuit at free_record)) x → b ≡ begin_with (drop at (lines_held circuit size)) x
   circuit_goes_on x b l told = rw (next_line_lem (lines_of circuit) size (records_long circuit long) few at l, ← record_held circuit at) told
 
-pub ruleset next_laws = (rules, circuit_goes_on)
+pub ruleset next_laws = (rules, formed_few, formed_long, circuit_ends, circuit_goes_on)
 
 -- one line of an erasure more
 compared_next :
@@ -52,7 +54,7 @@ compared_next n [] ys y rules = refl
 compared_next n (x ∷ xs) ys y rules = refl
 
 -- ---- the loop
-module _ (circuit : List (List ℕ)) (size : ℕ) (schedule : List (List ℕ)) (count : ℕ) where
+module _ (circuit : List Record) (size : ℕ) (schedule : List Record) (count : ℕ) where
   -- what a check says where the headers are the same, by what the rules say
   abbrev pub line_verdict : Answer → Answer
   line_verdict rules = compared 0 (lines_held circuit size) (erase (lines_held schedule count)) rules
@@ -99,26 +101,28 @@ module _ (circuit : List (List ℕ)) (size : ℕ) (schedule : List (List ℕ)) (
 
       -- a line that stays
       module _
-          (n a b d : ℕ) (is : e ≡ Kept n a b d) (r : Bool)
-          (tested : r ≡ begin_with (drop at (lines_held circuit size)) (line_of (n ∷ a ∷ b ∷ d ∷ []))) where
+          (k : Record) (is : e ≡ Kept k) (r : Bool)
+          (tested : r ≡ begin_with (drop at (lines_held circuit size)) (line_of k)) where
         abbrev onward : List Line
         onward = rest_of schedule count (set origins i at) (at + 1) (i + 1)
 
         next : (rules : Answer) → cond r (compared (suc at) (drop 1 (drop at (lines_held circuit size))) onward rules) (Refused 12 (place_of at)) ≡ line_verdict rules
         next rules =
             rw tested
-            (sym (compared_next at (drop at (lines_held circuit size)) onward (line_of (n ∷ a ∷ b ∷ d ∷ [])) rules)
-            ∙ ap (λ (l : List Line). ahead at l rules) (sym (rest_kept schedule count origins at i c.walk inside e told n a b d is))
+            (sym (compared_next at (drop at (lines_held circuit size)) onward (line_of k) rules)
+            ∙ ap (λ (l : List Line). ahead at l rules) (sym (rest_kept schedule count origins at i c.walk inside e told k is))
             ∙ c.left rules)
 
-        pub line_differs : r ≡ false → (answer : Compared) → answer ≡ Differs (place_of at) → (rules : Answer) → after_compared answer rules ≡ line_verdict rules
+        pub line_differs :
+            r ≡ false → (answer : Refusal) → answer ≡ record { fault = AnotherCircuit; place = place_of at } → (rules : Answer) →
+            after_compared (Err answer) rules ≡ line_verdict rules
         line_differs z answer a rules = rw a (rw z at (next rules))
 
         -- then the circuit has a line there
         inside_circuit : r ≡ true → at < size
         inside_circuit z =
             ⊎_elim (λ l. l)
-            (λ l. absurd (true≢false (sym z ∙ tested ∙ sym (circuit_ends circuit size at c.long c.few (line_of (n ∷ a ∷ b ∷ d ∷ [])) l))))
+            (λ l. absurd (true≢false (sym z ∙ tested ∙ sym (circuit_ends circuit size at c.long c.few (line_of k) l))))
             (below_or_not at size)
 
         pub line_agrees :
@@ -141,13 +145,15 @@ module _ (circuit : List (List ℕ)) (size : ℕ) (schedule : List (List ℕ)) (
       pub all_agree : at ≡ size → (rules : Answer) → rules ≡ line_verdict rules
       all_agree e rules = rw (no_line_lem (lines_of circuit) size (records_long circuit c.long) c.few at (omega arith)) at (rest rules)
 
-      pub longer_circuit : (at ≡ size → ⊥) → (answer : Compared) → answer ≡ Differs (place_of at) → (rules : Answer) → after_compared answer rules ≡ line_verdict rules
+      pub longer_circuit :
+          (at ≡ size → ⊥) → (answer : Refusal) → answer ≡ record { fault = AnotherCircuit; place = place_of at } → (rules : Answer) →
+          after_compared (Err answer) rules ≡ line_verdict rules
       longer_circuit f answer a rules =
           let l : at < size = omega (arith, f, c.within) in
           rw a (rw (next_line_lem (lines_of circuit) size (records_long circuit c.long) c.few at l) at (rest rules))
 
 -- ---- the headers
-module _ (header other : Header) (circuit : List (List ℕ)) (size : ℕ) (schedule : List (List ℕ)) (count : ℕ) (r : Bool) (tested : r ≡ same_header header other) where
+module _ (header other : Header) (circuit : List Record) (size : ℕ) (schedule : List Record) (count : ℕ) (r : Bool) (tested : r ≡ same_header header other) where
   abbrev checked : Answer
   checked = check (file_of (held header circuit size)) (file_of (held other schedule count))
 
@@ -155,7 +161,7 @@ module _ (header other : Header) (circuit : List (List ℕ)) (size : ℕ) (sched
   header_differs e = rw (← tested, e)
 
   pub by_lines :
-      r ≡ true → (answer : Compared) →
+      r ≡ true → (answer : Result Unit Refusal) →
       after_compared answer (rules_answer other (lines_held schedule count)) ≡ line_verdict circuit size schedule count (rules_answer other (lines_held schedule count)) →
       after_compared answer (rules_answer other (lines_held schedule count)) ≡ checked
   by_lines e answer is = rw (← tested, e) is
@@ -165,10 +171,6 @@ pub ruleset compare_laws = (
   not-true,
   not-false,
   place_fits,
-  line_there,
-  word_known,
-  first_small,
-  second_small,
   formed_few,
   formed_long,
   compare_start,

@@ -1,5 +1,4 @@
 pub mod LineLaws
 pub mod Walking
 pub mod Filling
-pub mod Headers
 pub mod Comparing

@@ -1,5 +1,5 @@
 -- What erasing makes of a line of a schedule, as the code has it.
-use Rattle.std.specs.Prelude.{ℕ, cond, List, [], ◌∷◌, get_or}
+use Rattle.std.specs.Prelude.{ℕ, cond, List, get_or}
 use Rattle.model.specs.declared.Line.{Line}
 use Rattle.tables.specs.Records.{line_of, is_struck}
 use Rattle.operands.specs.Operands.{first_operand, second_operand, with_operands}
@@ -13,7 +13,7 @@ pub data LineErased : Type 0 where
 
 -- what the code has made of it, by the record's numbers where it is kept
 abbrev pub erased_to : Erased → LineErased
-erased_to (Kept n a b c) = kept_as (line_of (n ∷ a ∷ b ∷ c ∷ []))
+erased_to (Kept numbers) = kept_as (line_of numbers)
 erased_to (Struck o) = struck_from o
 
 -- a line by the origins of the lines before it: where it is kept, with its operands' origins as operands

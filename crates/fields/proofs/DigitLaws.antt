@@ -3,32 +3,33 @@ use Prim.Native.Nat.{ℕ, zero, suc, ◌+◌, ◌*◌, ◌-◌, ◌/◌, ◌%◌
 use native.Mathlib.Decide.{dec_lt}
 use native.Mathlib.Nat.{zero-add, mul_assoc, mul-le-mul_right, pow-suc, pow-succ', le_trans}
 use native.Mathlib.Omega.{arith}
+use mathlib.Core.Option as O
 use mathlib.Core.Path.{◌≡◌, sym, ap, ◌∙◌}
 use mathlib.Core.List.{[], ◌∷◌, ◌++◌, append_assoc, append-nil}
 use borrow.Author.Tests.{lt-ltb, le-ltb, le-leb, lt-leb}
 use lib.ListN.{length, get_or, length-append, get_or-append}
 use Rattle.fields.specs.Pieces.{Bytes}
 use Rattle.fields.specs.Numbers.{digits_of, decimal_in}
-use Rattle.fields.specs.declared.Field.TheVariants.{Number, NoNumber}
 use Rattle.fields.proofs.Each.{Each, none, one, each_append}
 
 pub record Digit (b : ℕ) : Type 0 where
   pub low : 48 ≤ b
   pub high : b ≤ 57
 
-pub number_is : {m n : ℕ} → Number m ≡ Number n → m ≡ n
-number_is e = cc
+-- what is there is one thing, and nothing is not something
+pub some_is : {A : Type 0} {x y : A} → O.some x ≡ O.some y → x ≡ y
+some_is e = cc
 
-pub no_number : {P : Type 0} {n : ℕ} → NoNumber ≡ Number n → P
-no_number e = absurd (let z : ◌≡◌ {A = ℕ} 0 1 = cc in omega arith)
+pub none_some : {A P : Type 0} {x : A} → O.none ≡ O.some x → P
+none_some e = absurd (let z : ◌≡◌ {A = ℕ} 0 1 = cc in omega arith)
 
 -- ---- reading
 module _ (b : ℕ) (bs : Bytes) (v : ℕ) where
-  pub digits_low : b < 48 → digits_of (b ∷ bs) v ≡ NoNumber
+  pub digits_low : b < 48 → digits_of (b ∷ bs) v ≡ O.none
   unfolding digits_of
   digits_low h = simp (lt-leb 48 b h)
 
-  pub digits_high : 57 < b → digits_of (b ∷ bs) v ≡ NoNumber
+  pub digits_high : 57 < b → digits_of (b ∷ bs) v ≡ O.none
   unfolding digits_of
   digits_high h = simp (le-leb 48 b (omega arith), lt-leb b 57 h)
 
@@ -37,14 +38,14 @@ module _ (b : ℕ) (bs : Bytes) (v : ℕ) where
   digits_next d = simp (le-leb 48 b d.low, le-leb b 57 d.high)
 
   -- where a number is read, the first byte is a digit, and the number is read of the rest
-  pub first_digit : {n : ℕ} → digits_of (b ∷ bs) v ≡ Number n → Digit b
+  pub first_digit : {n : ℕ} → digits_of (b ∷ bs) v ≡ O.some n → Digit b
   first_digit e =
       elim (dec_lt b 48) [
-        | yes l ↦ no_number (sym (digits_low l) ∙ e)
-        | no l ↦ elim (dec_lt 57 b) [ yes h ↦ no_number (sym (digits_high h) ∙ e) | no h ↦ record { low = omega arith; high = omega arith } ]
+        | yes l ↦ none_some (sym (digits_low l) ∙ e)
+        | no l ↦ elim (dec_lt 57 b) [ yes h ↦ none_some (sym (digits_high h) ∙ e) | no h ↦ record { low = omega arith; high = omega arith } ]
       ]
 
-  pub rest_digits : {n : ℕ} → digits_of (b ∷ bs) v ≡ Number n → digits_of bs (v * 10 + (b - 48)) ≡ Number n
+  pub rest_digits : {n : ℕ} → digits_of (b ∷ bs) v ≡ O.some n → digits_of bs (v * 10 + (b - 48)) ≡ O.some n
   rest_digits e = sym (digits_next (first_digit e)) ∙ e
 
 -- a number with one digit more, below (v + 1) * 10, leaves room for k digits where v leaves room for k + 1
@@ -53,9 +54,9 @@ room v d k h =
     let more : v * 10 + d + 1 ≤ (v + 1) * 10 = omega arith in
     rw (pow-succ' 10 k, ← mul_assoc (v + 1) 10 (10 ^ k)) (mul-le-mul_right (10 ^ k) more)
 
-pub digits_below : (bs : Bytes) (v : ℕ) {n : ℕ} → digits_of bs v ≡ Number n → n < (v + 1) * 10 ^ length bs
+pub digits_below : (bs : Bytes) (v : ℕ) {n : ℕ} → digits_of bs v ≡ O.some n → n < (v + 1) * 10 ^ length bs
 unfolding digits_of
-digits_below [] v e = let same = number_is e in omega arith
+digits_below [] v e = let same = some_is e in omega arith
 digits_below (b ∷ bs) v e =
     let d = first_digit b bs v e in
     let below = digits_below bs (v * 10 + (b - 48)) (rest_digits b bs v e) in
@@ -131,9 +132,9 @@ read_written =
     (p (tenth k n g) ((48 + n % 10) ∷ t) ∙ digits_next (48 + n % 10) t (n / 10) (digit (n % 10) (omega arith)) ∙ ap (digits_of t) (omega arith)))
 
 -- ---- what is read is written, after digits of the number v
-pub write_read : (bs : Bytes) (v k : ℕ) {n : ℕ} → 0 < v → digits_of bs v ≡ Number n → decimal_in (length bs + k) n ≡ decimal_in k v ++ bs
+pub write_read : (bs : Bytes) (v k : ℕ) {n : ℕ} → 0 < v → digits_of bs v ≡ O.some n → decimal_in (length bs + k) n ≡ decimal_in k v ++ bs
 unfolding digits_of
-write_read [] v k {n} h e = rw (zero-add, append-nil) (ap (decimal_in k) (sym (number_is e)))
+write_read [] v k {n} h e = rw (zero-add, append-nil) (ap (decimal_in k) (sym (some_is e)))
 write_read (b ∷ bs) v k {n} h e =
     let d = first_digit b bs v e in
     let w : ℕ = v * 10 + (b - 48) in

@@ -1,31 +1,28 @@
 -- The number or the amount that stands at a place, by the number after so many bytes of its field and what a minus makes of it: one law for each return of
 -- the code, its premises the tests on the way. Assumes nothing.
-use Prim.Native.Nat.{ℕ, zero, suc, ◌+◌, ◌≤◌, ◌<◌}
+use Prim.Native.Nat.{ℕ, zero, suc, ◌+◌, ◌≤◌}
 use native.Mathlib.Decide.{dec_le}
 use native.Mathlib.Nat.{add-zero}
 use native.Mathlib.Omega.{arith}
-use mathlib.Core.Bool.{Bool, true, false, not}
-use mathlib.Core.Path.{◌≡◌, refl, sym, ap, ◌∙◌}
+use mathlib.Core.Bool.{Bool, true, false}
+use mathlib.Core.Option as O
+use mathlib.Core.Path.{◌≡◌, refl, sym, ap, ◌∙◌, subst}
 use mathlib.Core.List.{[], ◌∷◌}
 use borrow.Author.Rules.{rules}
-use borrow.Author.Tests.{eqb-true, eqb-false, le-leb, lt-leb, ne_eqb, not-true, not-false}
+use borrow.Author.Tests.{eqb-true, eqb-false, le-leb, lt-leb, ne_eqb}
 use lib.Dec.{T}
-use lib.IntN.{ℤ, pos, negsuc, neg_ℤ, ◌-ℤ◌, +ℤ_idl}
+use lib.IntN.{pos}
 use lib.ListN.{length, take, drop, length-drop}
 use lib.Seq.{drop-drop}
-use mir.Syntax.{w32, w64}
-use mir.Val.{Fits, SFits, bool_byte, to_z, of_z}
-use mir.ValLaws.{to_z_pos, to_z-of_z}
+use mir.Syntax.{w32}
+use mir.Val.{Fits, bool_byte}
+use Rattle.std.specs.Prelude as Std
+use Rattle.std.specs.Prelude.{Some, None}
 use Rattle.fields.specs.Pieces.{Bytes}
 use Rattle.fields.specs.Numbers.{number_of, after_minus, without_minus, amount_of}
 use Rattle.fields.specs.Digits.{digits_in, first_digits, amount_in}
 use Rattle.fields.specs.Places.{begins, size_of, number_to, number_at, number_from, amount_to, amount_at, field_at, has_minus, negated_to, is_unsigned}
-use Rattle.fields.specs.declared.Field.{Field}
-use Rattle.fields.specs.declared.Field.TheVariants.{Number, NoNumber}
-use Rattle.fields.specs.declared.Size.{Size}
-use Rattle.fields.specs.declared.Size.TheVariants.{Within, Above}
 use Rattle.fields.specs.declared.FieldAt.{FieldAt}
-use Rattle.fields.specs.declared.FieldAt.TheVariants.{Whole, NoWhole}
 use Rattle.fields.proofs.NumberLaws.{number_long, amount_long, amount_minus, amount_plain, minus_more}
 use Rattle.fields.proofs.SpanLaws.{digits_length, amount_in_minus, amount_in_plain}
 use Rattle.fields.proofs.ReadingLaws.{in_limit, past_limit}
@@ -45,20 +42,6 @@ unfolding amount_in digits_in
 in_plain [] e = refl
 in_plain (b ∷ bs) e = amount_in_plain b bs (begins_other 45 b bs e)
 
--- ---- a number against the caller's largest
-module _ (largest : ℕ) where
-  pub number_over : (n : ℕ) → largest < n → Above ≡ size_of largest (pos n)
-  number_over n h = rw (lt-leb n largest h)
-
-  module _ (n : ℕ) (wide : Fits w32 largest) (h : n ≤ largest) where
-    pub number_within : Within (to_z w64 n) ≡ size_of largest (pos n)
-    number_within = let small = wide.fits in rw (to_z_pos w64 n (omega arith), le-leb n largest h)
-
-    pub small_fits : SFits w64 (pos n)
-    small_fits = let small = wide.fits in record { sfits = omega arith }
-
-pub ruleset number_size_laws = (rules, number_over, number_within, small_fits)
-
 -- ---- the number after so many bytes, as the definitions have it
 -- with none it is the number at the place: one of more than 11 digits is none
 from_none : (largest : ℕ) (s : Bytes) (at : ℕ) → number_from 0 largest s at ≡ number_at largest s at
@@ -71,76 +54,33 @@ from_none largest s at =
     ]
 
 -- it has no sign, and is no larger than any caller's largest
-size_unsigned : (largest end n : ℕ) → largest ≤ 4294967295 → T (is_unsigned (number_to largest end (Number n)))
-size_unsigned largest end n wide =
+size_unsigned : (largest n : ℕ) → largest ≤ 4294967295 → T (is_unsigned (size_of largest (pos n)))
+size_unsigned largest n wide =
     elim (dec_le n largest) [ yes h ↦ rw (le-leb n largest h, le-leb n 4294967295 (omega arith)) tt | no h ↦ rw (lt-leb n largest (omega arith)) tt ]
 
-number_unsigned : (largest end : ℕ) (f : Field) → largest ≤ 4294967295 → T (is_unsigned (number_to largest end f))
-number_unsigned largest end (Number n) wide = size_unsigned largest end n wide
-number_unsigned largest end NoNumber wide = tt
+pub given_is : {A : Type 0} {x y : A} → Some x ≡ Some y → x ≡ y
+given_is e = cc
 
-pub from_unsigned : (start largest : ℕ) (s : Bytes) (at : ℕ) → Fits w32 largest → (r : FieldAt) → r ≡ number_from start largest s at → T (is_unsigned r)
+none_given : {A P : Type 0} {x : A} → None ≡ Some x → P
+none_given e = absurd (let z : ◌≡◌ {A = ℕ} 0 1 = cc in omega arith)
+
+number_unsigned : (largest end : ℕ) (f : O.Option ℕ) {r : FieldAt} → largest ≤ 4294967295 → number_to largest end f ≡ Some r → T (is_unsigned r.number)
+number_unsigned largest end (O.some n) wide e = subst (λ (r : FieldAt). T (is_unsigned r.number)) (given_is e) (size_unsigned largest n wide)
+number_unsigned largest end O.none wide e = none_given e
+
+pub from_unsigned : (start largest : ℕ) (s : Bytes) (at : ℕ) → Fits w32 largest → (r : FieldAt) → number_from start largest s at ≡ Some r → T (is_unsigned r.number)
 from_unsigned start largest s at wide r is =
     let most : largest ≤ 4294967295 = let small = wide.fits in omega arith in
     let digits : Bytes = drop (at + start) s in
     elim (dec_le (start + digits_in digits) 11) [
-      | yes h ↦ rw (is, in_limit start largest s at h) (number_unsigned largest (at + start + digits_in digits) (number_of (first_digits digits)) most)
-      | no h ↦ rw (is, past_limit start largest s at (omega arith)) tt
+      | yes h ↦ number_unsigned largest (at + start + digits_in digits) (number_of (first_digits digits)) most (sym (in_limit start largest s at h) ∙ is)
+      | no h ↦ none_given (sym (past_limit start largest s at (omega arith)) ∙ is)
     ]
 
--- ---- what a minus makes of a number
-record Natural (n : ℤ) : Type 0 where
-  value : ℕ
-  is : n ≡ pos value
-  small : value ≤ 4294967295
-
-natural : (n : ℤ) (end : ℕ) → T (is_unsigned (Whole (Within n) end)) → Natural n
-natural (pos v) end t =
-    elim (dec_le v 4294967295) [ yes h ↦ record { value = v; is = refl; small = h } | no h ↦ absurd (rw (lt-leb v 4294967295 (omega arith)) at t) ]
-natural (negsuc v) end t = absurd t
-
-module _ (n : ℤ) (number : Natural n) where
-  value_is : of_z w64 n ≡ number.value
-  value_is = ap (of_z w64) number.is
-
-  negative : pos 0 -ℤ to_z w64 (of_z w64 n) ≡ neg_ℤ (pos number.value)
-  negative = rw (value_is, to_z_pos w64 number.value (omega (arith, number.small))) (+ℤ_idl (neg_ℤ (pos number.value)))
-
-  held : SFits w64 (pos 0 -ℤ to_z w64 (of_z w64 n))
-  held = rw negative (signed number.value number.small)
-    where
-      signed : (v : ℕ) → v ≤ 4294967295 → SFits w64 (neg_ℤ (pos v))
-      signed zero h = record { sfits = omega arith }
-      signed (suc v) h = record { sfits = omega arith }
-
-  zero_to : (end : ℕ) → of_z w64 n ≡ 0 → NoWhole ≡ negated_to (Whole (Within n) end)
-  zero_to end none = sym (ap (λ (m : ℤ). negated_to (Whole (Within m) end)) (number.is ∙ ap pos (sym value_is ∙ none)))
-
-  within_to : (end : ℕ) → (of_z w64 n ≡ 0 → ⊥) → Whole (Within (to_z w64 (of_z w64 (pos 0 -ℤ to_z w64 (of_z w64 n))))) end ≡ negated_to (Whole (Within n) end)
-  within_to end some =
-      let other : number.value ≡ 0 → ⊥ = λ z. some (value_is ∙ z) in
-      let turned : negated_to (Whole (Within (pos number.value)) end) ≡ Whole (Within (neg_ℤ (pos number.value))) end = rw (ne_eqb number.value 0 other) in
-      ap (λ (m : ℤ). Whole (Within m) end) (to_z-of_z w64 (pos 0 -ℤ to_z w64 (of_z w64 n)) held ∙ negative) ∙ sym turned ∙
-      ap (λ (m : ℤ). negated_to (Whole (Within m) end)) (sym number.is)
-
-module _ (r : FieldAt) (u : T (is_unsigned r)) (z : Size) (end : ℕ) (e : r ≡ Whole z end) where
-  pub above_negated : z ≡ Above → Whole Above end ≡ negated_to r
-  above_negated a = rw (e, a)
-
-  module _ (n : ℤ) (w : z ≡ Within n) where
-    number : Natural n
-    number = natural n end (rw (e, w) at u)
-
-    pub negative_fits : SFits w64 (pos 0 -ℤ to_z w64 (of_z w64 n))
-    negative_fits = held n number
-
-    pub zero_negated : of_z w64 n ≡ 0 → NoWhole ≡ negated_to r
-    zero_negated none = rw (e, w) (zero_to n number end none)
-
-    pub within_negated : (of_z w64 n ≡ 0 → ⊥) → Whole (Within (to_z w64 (of_z w64 (pos 0 -ℤ to_z w64 (of_z w64 n))))) end ≡ negated_to r
-    within_negated some = rw (e, w) (within_to n number end some)
-
-pub ruleset negated_laws = (rules, negative_fits)
+-- ---- what a minus makes of what was read
+abbrev negated_read : Std.Option FieldAt → Std.Option FieldAt
+negated_read None = None
+negated_read (Some read) = negated_to read.end read.number
 
 -- ---- the amount at a place
 -- without a minus it is the number there
@@ -159,9 +99,9 @@ plain_front zero t e = refl
 plain_front (suc n) [] e = refl
 plain_front (suc n) (b ∷ bs) e = e
 
-plain_to : (largest end : ℕ) (f : Field) → number_to largest end f ≡ amount_to largest end (without_minus f)
-plain_to largest end (Number n) = refl
-plain_to largest end NoNumber = refl
+plain_to : (largest end : ℕ) (f : O.Option ℕ) → number_to largest end f ≡ amount_to largest end (without_minus f)
+plain_to largest end (O.some n) = refl
+plain_to largest end O.none = refl
 
 without_minus_lem : (s : Bytes) (at largest : ℕ) → begins 45 (drop at s) ≡ false → number_at largest s at ≡ amount_at largest s at
 unfolding number_at amount_at
@@ -170,10 +110,10 @@ without_minus_lem s at largest plain =
     rw (in_plain (drop at s) plain, plain_amount (first_digits (drop at s)) (plain_front (digits_in (drop at s)) (drop at s) plain))
 
 -- after a minus it is what the minus makes of that number
-minus_to : (largest end : ℕ) (f : Field) → amount_to largest end (after_minus f) ≡ negated_to (number_to largest end f)
-minus_to largest end NoNumber = refl
-minus_to largest end (Number zero) = rw (le-leb 0 largest (omega arith))
-minus_to largest end (Number (suc n)) =
+minus_to : (largest end : ℕ) (f : O.Option ℕ) → amount_to largest end (after_minus f) ≡ negated_read (number_to largest end f)
+minus_to largest end O.none = refl
+minus_to largest end (O.some zero) = rw (le-leb 0 largest (omega arith))
+minus_to largest end (O.some (suc n)) =
     elim (dec_le (suc n) largest) [
       | yes h ↦ rw (minus_more n, le-leb (suc n) largest h, ne_eqb (suc n) 0 (λ e. omega arith))
       | no h ↦ rw (minus_more n, lt-leb (suc n) largest (omega arith))
@@ -195,7 +135,7 @@ module _ (s : Bytes) (at : ℕ) (h : begins 45 (drop at s) ≡ true) where
       let end : at + suc (digits_in after) ≡ at + 1 + digits_in after = omega arith in
       rw (text_is, amount_in_minus after, end)
 
-  with_minus : (largest : ℕ) → negated_to (number_from 1 largest s at) ≡ amount_at largest s at
+  with_minus : (largest : ℕ) → negated_read (number_from 1 largest s at) ≡ amount_at largest s at
   with_minus largest =
       elim (dec_le (1 + digits_in after) 11) [
         | yes h ↦ sym (amount_is largest ∙ rw (amount_minus (first_digits after) (omega (arith, digits_length after)))
@@ -204,14 +144,6 @@ module _ (s : Bytes) (at : ℕ) (h : begins 45 (drop at s) ≡ true) where
       ]
 
 -- ---- the number of a field with a sign, or without
-pub without_sign : (signed : Bool) (t : Bytes) → not signed ≡ true → false ≡ has_minus signed t
-without_sign signed t h = rw (not-true signed h)
-
-pub with_sign : (signed : Bool) (t : Bytes) (r : Bool) → not signed ≡ false → r ≡ begins 45 t → r ≡ has_minus signed t
-with_sign signed t r h e = rw (not-false signed h) e
-
-pub ruleset sign_laws = (rules, without_sign, with_sign)
-
 no_minus : {P : Type 0} → false ≡ true → P
 no_minus e = absurd (let z : ◌≡◌ {A = ℕ} 0 1 = cc in omega arith)
 
@@ -219,7 +151,7 @@ minus_begins : (signed : Bool) (t : Bytes) → has_minus signed t ≡ true → b
 minus_begins true t e = e
 minus_begins false t e = no_minus e
 
-minus_amount : (signed : Bool) (largest : ℕ) (s : Bytes) (at : ℕ) → has_minus signed (drop at s) ≡ true → negated_to (number_from 1 largest s at) ≡ field_at signed largest s at
+minus_amount : (signed : Bool) (largest : ℕ) (s : Bytes) (at : ℕ) → has_minus signed (drop at s) ≡ true → negated_read (number_from 1 largest s at) ≡ field_at signed largest s at
 minus_amount true largest s at e = with_minus s at e largest
 minus_amount false largest s at e = no_minus e
 
@@ -239,11 +171,24 @@ module _ (signed : Bool) (s : Bytes) (at : ℕ) (m : Bool) (q : m ≡ has_minus 
       go true q = minus_there s at (minus_begins signed (drop at s) (sym q))
       go false q = omega arith
 
-  module _ (largest : ℕ) (read : FieldAt) (is : read ≡ number_from (bool_byte m) largest s at) where
-    pub as_amount : m ≡ true → (r : FieldAt) → r ≡ negated_to read → r ≡ field_at signed largest s at
-    as_amount h r e = e ∙ ap negated_to (is ∙ ap (λ (b : Bool). number_from (bool_byte b) largest s at) h) ∙ minus_amount signed largest s at (sym q ∙ h)
+  module _ (largest : ℕ) where
+    from_amount : m ≡ true → (r : Std.Option FieldAt) → number_from (bool_byte m) largest s at ≡ r → negated_read r ≡ field_at signed largest s at
+    from_amount h r e = ap negated_read (sym e ∙ ap (λ (b : Bool). number_from (bool_byte b) largest s at) h) ∙ minus_amount signed largest s at (sym q ∙ h)
 
-    pub as_number : m ≡ false → read ≡ field_at signed largest s at
-    as_number h = is ∙ ap (λ (b : Bool). number_from (bool_byte b) largest s at) h ∙ plain_number signed largest s at (sym q ∙ h)
+    from_number : m ≡ false → (r : Std.Option FieldAt) → number_from (bool_byte m) largest s at ≡ r → r ≡ field_at signed largest s at
+    from_number h r e = sym e ∙ ap (λ (b : Bool). number_from (bool_byte b) largest s at) h ∙ plain_number signed largest s at (sym q ∙ h)
+
+    pub as_none : number_from (bool_byte m) largest s at ≡ None → None ≡ field_at signed largest s at
+    as_none e = go m refl
+      where
+        go : (b : Bool) → m ≡ b → None ≡ field_at signed largest s at
+        go true h = from_amount h None e
+        go false h = from_number h None e
+
+    pub as_amount : m ≡ true → (read : FieldAt) → number_from (bool_byte m) largest s at ≡ Some read → negated_to read.end read.number ≡ field_at signed largest s at
+    as_amount h read e = from_amount h (Some read) e
+
+    pub as_number : m ≡ false → (read : FieldAt) → number_from (bool_byte m) largest s at ≡ Some read → Some read ≡ field_at signed largest s at
+    as_number h read e = from_number h (Some read) e
 
 pub ruleset start_laws = (rules, start_short, start_within)

@@ -1,26 +1,23 @@
 -- A field's digits, one a turn: what stands where reading has come to, how it goes on, and what it has come to where no digit stands. Assumes nothing.
 use Prim.Native.Nat.{ℕ, suc, ◌+◌, ◌*◌, ◌-◌, ◌≤◌, ◌<◌}
 use native.Mathlib.Decide.{dec_le, ℕ_discrete}
-use native.Mathlib.Nat.{pow-suc, pow-le-pow_right, add-zero}
+use native.Mathlib.Nat.{pow-suc, add-zero}
 use native.Mathlib.Numerals.{add-one}
 use native.Mathlib.Omega.{arith}
 use mathlib.Core.Bool.{Bool, true, false}
+use mathlib.Core.Option as O
 use mathlib.Core.Path.{◌≡◌, refl, sym, ◌∙◌}
-use borrow.Author.Rules.{rules}
 use borrow.Author.Tests.{le-leb, lt-leb, eqb-true, eqb-false, ne_eqb}
 use lib.Dec.{eqb, lit<}
-use lib.IntN.{pos}
+use lib.IntN.{ℤ, pos}
 use lib.ListN.{length, get_or, drop}
 use lib.Seq.{drop-cons, get_or-take, get_or-drop}
-use mir.Syntax.{w64}
-use mir.Val.{Fits}
+use Rattle.std.specs.Prelude as Std
+use Rattle.std.specs.Prelude.{Some, None}
 use Rattle.fields.specs.Pieces.{Bytes}
 use Rattle.fields.specs.Numbers.{digits_of, number_of}
 use Rattle.fields.specs.Digits.{begins_digit, digits_in, first_digits, lone_zero}
 use Rattle.fields.specs.Places.{DigitsRead, size_of, number_to, number_at, number_from}
-use Rattle.fields.specs.declared.Field.TheVariants.{Number}
-use Rattle.fields.specs.declared.Size.{Size}
-use Rattle.fields.specs.declared.FieldAt.TheVariants.{Whole, NoWhole}
 use Rattle.fields.proofs.DigitLaws.{Digit, digits_next}
 use Rattle.fields.proofs.NumberLaws.{number_none, number_zero, NumberForm, number_digits}
 use Rattle.fields.proofs.SpanLaws.{digits_in_more, digits_length, digit_there, none_there}
@@ -34,7 +31,7 @@ module _ (start largest : ℕ) (s : Bytes) (at : ℕ) where
   unfolding number_from number_at
   in_limit h = rw (le-leb (start + digits_in digits) 11 h)
 
-  pub past_limit : 11 < start + digits_in digits → number_from start largest s at ≡ NoWhole
+  pub past_limit : 11 < start + digits_in digits → number_from start largest s at ≡ None
   unfolding number_from
   past_limit h = rw (lt-leb (start + digits_in digits) 11 h)
 
@@ -42,7 +39,7 @@ module _ (start largest : ℕ) (s : Bytes) (at : ℕ) where
   first_is : 0 < digits_in digits → get_or (first_digits digits) 0 0 ≡ get_or s (at + start) 0
   first_is h = get_or-take (digits_in digits) digits 0 0 h ∙ get_or-drop (at + start) s 0 0 ∙ rw (add-zero (at + start))
 
-  zero_before : 1 < digits_in digits → get_or s (at + start) 0 ≡ 48 → number_from start largest s at ≡ NoWhole
+  zero_before : 1 < digits_in digits → get_or s (at + start) 0 ≡ 48 → number_from start largest s at ≡ None
   zero_before more e =
       elim (dec_le (start + digits_in digits) 11) [
         | yes h ↦ in_limit h ∙ rw (number_zero (first_digits digits) (rw (digits_length digits) more) (first_is (omega arith) ∙ e))
@@ -51,11 +48,11 @@ module _ (start largest : ℕ) (s : Bytes) (at : ℕ) where
 
 -- ---- one zero
 module _ (count value : ℕ) where
-  pub is_lone : count ≡ 1 → eqb value 0 ≡ lone_zero count value
+  is_lone : count ≡ 1 → eqb value 0 ≡ lone_zero count value
   unfolding lone_zero
   is_lone h = rw h
 
-  pub not_lone : (count ≡ 1 → ⊥) → false ≡ lone_zero count value
+  not_lone : (count ≡ 1 → ⊥) → false ≡ lone_zero count value
   unfolding lone_zero
   not_lone n = rw (ne_eqb count 1 n)
 
@@ -67,8 +64,6 @@ module _ (count value : ℕ) where
 
   other_value : lone_zero count value ≡ false → count ≡ 1 → value ≡ 0 → ⊥
   other_value e h = eqb-false value 0 (is_lone h ∙ e)
-
-pub ruleset lone_laws = (rules, is_lone, not_lone)
 
 -- ---- so many have been read
 pub begin : (s : Bytes) (at start : ℕ) → at + start ≤ length s → start ≤ 11 → DigitsRead s at start start 0
@@ -92,15 +87,6 @@ module _ (s : Bytes) (at start position value : ℕ) (read : DigitsRead s at sta
   abbrev byte : ℕ
   byte = get_or s (at + position) 0
 
-  pub begun_there : start ≤ position
-  begun_there = read.begun
-
-  pub value_small : value < 100000000000
-  value_small =
-      let most : position - start ≤ 11 = omega (arith, read.few) in
-      let below = pow-le-pow_right {n = 10} (lit< tt) most in
-      omega (arith, read.small)
-
   value_none : position ≡ start → value ≡ 0
   value_none e =
       let none : position - start ≡ 0 = omega arith in
@@ -121,20 +107,11 @@ module _ (s : Bytes) (at start position value : ℕ) (read : DigitsRead s at sta
     pub digit_low : 48 ≤ byte
     digit_low = here.low
 
-    pub digit_fits : Fits w64 (byte - 48)
-    digit_fits = record { fits = omega (arith, here.high) }
-
-    pub product_fits : Fits w64 (value * 10)
-    product_fits = record { fits = omega (arith, value_small) }
-
-    pub sum_fits : Fits w64 (value * 10 + (byte - 48))
-    sum_fits = record { fits = omega (arith, value_small, here.high) }
-
-    pub one_too_many : (largest most : ℕ) → position ≡ most → 11 ≤ most → NoWhole ≡ number_from start largest s at
+    pub one_too_many : (largest most : ℕ) → position ≡ most → 11 ≤ most → None ≡ number_from start largest s at
     one_too_many largest most z l = sym (past_limit start largest s at (omega (arith, read.count, one_more_lem)))
 
     module _ (z : Bool) (l : z ≡ lone_zero (position - start) value) where
-      pub zero_leads : (largest : ℕ) → z ≡ true → NoWhole ≡ number_from start largest s at
+      pub zero_leads : (largest : ℕ) → z ≡ true → None ≡ number_from start largest s at
       zero_leads largest h =
           let one = lone_count (position - start) value (sym l ∙ h) in
           let none = lone_value (position - start) value (sym l ∙ h) in
@@ -180,7 +157,7 @@ module _ (s : Bytes) (at start position value : ℕ) (read : DigitsRead s at sta
     all_read : start + digits_in (drop (at + start) s) ≡ position
     all_read = omega (arith, read.count, none_there left (sym q ∙ e))
 
-    digits_are : digits_of field 0 ≡ Number value
+    digits_are : digits_of field 0 ≡ O.some value
     unfolding digits_of
     digits_are = rw (none_there left (sym q ∙ e)) at read.number
 
@@ -192,7 +169,7 @@ module _ (s : Bytes) (at start position value : ℕ) (read : DigitsRead s at sta
         let end : at + start + digits_in (drop (at + start) s) ≡ at + position = omega (arith, all_read) in
         in_limit start largest s at (rw all_read read.few) ∙ rw end
 
-    pub no_digit : (largest : ℕ) → position ≡ start → NoWhole ≡ number_from start largest s at
+    pub no_digit : (largest : ℕ) → position ≡ start → None ≡ number_from start largest s at
     no_digit largest z =
         let none : digits_in (drop (at + start) s) ≡ 0 = omega (arith, all_read) in
         sym (is_number largest ∙ rw (none, number_none))
@@ -209,9 +186,7 @@ module _ (s : Bytes) (at start position value : ℕ) (read : DigitsRead s at sta
       form : NumberForm field
       form = record { some = omega (arith, length_is, read.begun); short = omega (arith, length_is, read.few); leading = alone }
 
-      pub whole : (largest : ℕ) → (n : Size) → n ≡ size_of largest (pos value) → Whole n (at + position) ≡ number_from start largest s at
+      pub whole : (largest : ℕ) → (n : Std.Option ℤ) → n ≡ size_of largest (pos value) → Some (record { number = n; end = at + position }) ≡ number_from start largest s at
       whole largest n is =
           let number = number_digits field form ∙ digits_are in
           sym (is_number largest ∙ rw (number, ← is))
-
-pub ruleset reading_laws = (rules, begun_there, value_small, inside, digit_low, digit_fits, product_fits, sum_fits)

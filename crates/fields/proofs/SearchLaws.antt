@@ -13,8 +13,8 @@ use Rattle.fields.specs.Places.{begins, NoneBefore, before}
 use Rattle.fields.proofs.PieceLaws.{before_here, before_other}
 
 module _ (x : ℕ) (s : Bytes) where
-  pub begin : NoneBefore x s 0
-  begin = record { within = omega arith; rest = omega arith }
+  pub none_yet : NoneBefore x s 0
+  none_yet = record { within = omega arith; rest = omega arith }
 
   module _ (i : ℕ) (p : NoneBefore x s i) where
     pub found : i < length s → get_or s i 0 ≡ x → i ≡ before x s
@@ -43,4 +43,4 @@ module _ (x : ℕ) (s : Bytes) (at : ℕ) where
   unfolding begins
   is_past h = rw (drop_of_length-le s h)
 
-pub ruleset byte_laws = (rules, begin, found, pass, nowhere, is_there, is_past)
+pub ruleset byte_laws = (rules, none_yet, found, pass, nowhere, is_there, is_past)

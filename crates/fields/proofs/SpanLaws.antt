@@ -3,11 +3,10 @@ use Prim.Native.Nat.{ℕ, suc, ◌≤◌, ◌<◌}
 use native.Mathlib.Decide.{dec_lt}
 use native.Mathlib.Omega.{arith}
 use mathlib.Core.Bool.{true, false}
-use mathlib.Core.Path.{◌≡◌, refl, sym, ◌∙◌}
+use mathlib.Core.Path.{◌≡◌, refl}
 use mathlib.Core.List.{[], ◌∷◌}
 use borrow.Author.Rules.{rules}
 use borrow.Author.Tests.{le-leb, lt-leb, ne_eqb}
-use lib.Dec.{leb}
 use lib.ListN.{length, get_or, drop, drop_of_length-le}
 use lib.Seq.{length-take-le, drop-cons}
 use Rattle.fields.specs.Pieces.{Bytes}
@@ -79,15 +78,9 @@ module _ (s : Bytes) (at : ℕ) where
   past_digits h = rw (drop_of_length-le s h)
 
   module _ (h : at < length s) where
-    begins_byte : begins_digit (drop at s) ≡ is_digit (get_or s at 0)
+    pub begins_byte : begins_digit (drop at s) ≡ is_digit (get_or s at 0)
     unfolding begins_digit
     begins_byte = rw (drop-cons s at 0 h)
-
-    pub low_byte : get_or s at 0 < 48 → false ≡ begins_digit (drop at s)
-    low_byte l = sym (begins_byte ∙ below_digits (get_or s at 0) l)
-
-    pub high_byte : 48 ≤ get_or s at 0 → leb (get_or s at 0) 57 ≡ begins_digit (drop at s)
-    high_byte l = sym (begins_byte ∙ rw (le-leb 48 (get_or s at 0) l))
 
   pub digit_there : begins_digit (drop at s) ≡ true → DigitThere s at
   digit_there e =
@@ -105,7 +98,7 @@ unfolding begins_digit digits_in
 none_there [] e = refl
 none_there (b ∷ bs) e = digits_in_other b bs e
 
-pub ruleset digit_laws = (rules, past_digits, low_byte, high_byte)
+pub ruleset digit_laws = (rules, past_digits, begins_byte)
 
 -- ---- with a minus in front, or without
 pub amount_in_minus : (bs : Bytes) → amount_in (45 ∷ bs) ≡ suc (digits_in bs)

@@ -1,16 +1,11 @@
 -- What the code uses: a text from a place on, the byte that stands there, and the number.
-use Rattle.std.specs.Prelude.{ℕ, suc, ◌+◌, ◌-◌, ◌^◌, ◌≤◌, ◌<◌, Bool, true, false, cond, [], ◌∷◌, ◌≡◌, eqb, leb, ℤ, pos, negsuc, neg_ℤ, nat_abs, length, get_or, take, drop}
+use Rattle.std.specs.Prelude as Std
+use Rattle.std.specs.Prelude.{Some, None, ℕ, suc, ◌+◌, ◌-◌, ◌^◌, ◌≤◌, ◌<◌, Bool, true, false, cond, [], ◌∷◌, ◌≡◌, eqb, leb, ℤ, pos, negsuc, neg_ℤ, nat_abs, length, get_or, take, drop}
+use Rattle.std.proofs.Math.Option.{Option, none, some}
 use Rattle.fields.specs.Pieces.{Bytes}
 use Rattle.fields.specs.Numbers.{longest_field, digits_of, number_of, amount_of}
 use Rattle.fields.specs.Digits.{digits_in, first_digits, amount_in}
-use Rattle.fields.specs.declared.Field.{Field}
-use Rattle.fields.specs.declared.Field.TheVariants.{Number, NoNumber}
-use Rattle.fields.specs.declared.Amount.{Amount}
-use Rattle.fields.specs.declared.Amount.TheVariants.{By, NoAmount}
-use Rattle.fields.specs.declared.Size.{Size}
-use Rattle.fields.specs.declared.Size.TheVariants.{Within, Above}
 use Rattle.fields.specs.declared.FieldAt.{FieldAt}
-use Rattle.fields.specs.declared.FieldAt.TheVariants.{Whole, NoWhole}
 
 -- whether a text begins with the byte x
 unfoldable pub begins : ℕ → Bytes → Bool
@@ -44,30 +39,30 @@ pub record DigitsRead (s : Bytes) (at start position value : ℕ) : Type 0 where
 -- ---- the number that stands at a place, and the place past it
 -- Document 02, Job 1: "The field reader's promise takes the caller's largest allowed number." A number is within it or above it; an amount
 -- is so on either side of zero.
-abbrev pub size_of : ℕ → ℤ → Size
-size_of largest n = cond (leb (nat_abs n) largest) (Within n) Above
+abbrev pub size_of : ℕ → ℤ → Std.Option ℤ
+size_of largest n = cond (leb (nat_abs n) largest) (Some n) None
 
-abbrev pub number_to : ℕ → ℕ → Field → FieldAt
-number_to largest end (Number n) = Whole (size_of largest (pos n)) end
-number_to largest end NoNumber = NoWhole
+abbrev pub number_to : ℕ → ℕ → Option ℕ → Std.Option FieldAt
+number_to largest end (some n) = Some (record { number = size_of largest (pos n); end = end })
+number_to largest end none = None
 
-abbrev pub amount_to : ℕ → ℕ → Amount → FieldAt
-amount_to largest end (By t) = Whole (size_of largest t) end
-amount_to largest end NoAmount = NoWhole
+abbrev pub amount_to : ℕ → ℕ → Option ℤ → Std.Option FieldAt
+amount_to largest end (some t) = Some (record { number = size_of largest t; end = end })
+amount_to largest end none = None
 
 -- the number that stands at a place
-unfoldable pub number_at : ℕ → Bytes → ℕ → FieldAt
+unfoldable pub number_at : ℕ → Bytes → ℕ → Std.Option FieldAt
 number_at largest s at = number_to largest (at + digits_in (drop at s)) (number_of (take (digits_in (drop at s)) (drop at s)))
 
 -- the same of a field that has so many bytes before the number, and no more than eleven with it
-unfoldable pub number_from : ℕ → ℕ → Bytes → ℕ → FieldAt
-number_from start largest s at = cond (leb (start + digits_in (drop (at + start) s)) longest_field) (number_at largest s (at + start)) NoWhole
+unfoldable pub number_from : ℕ → ℕ → Bytes → ℕ → Std.Option FieldAt
+number_from start largest s at = cond (leb (start + digits_in (drop (at + start) s)) longest_field) (number_at largest s (at + start)) None
 
-unfoldable pub amount_at : ℕ → Bytes → ℕ → FieldAt
+unfoldable pub amount_at : ℕ → Bytes → ℕ → Std.Option FieldAt
 amount_at largest s at = amount_to largest (at + amount_in (drop at s)) (amount_of (take (amount_in (drop at s)) (drop at s)))
 
 -- of a field that may have a sign, or may not
-abbrev pub field_at : Bool → ℕ → Bytes → ℕ → FieldAt
+abbrev pub field_at : Bool → ℕ → Bytes → ℕ → Std.Option FieldAt
 field_at true largest s at = amount_at largest s at
 field_at false largest s at = number_at largest s at
 
@@ -76,15 +71,13 @@ abbrev pub has_minus : Bool → Bytes → Bool
 has_minus true t = begins 45 t
 has_minus false t = false
 
--- what a minus makes of the number after it: "a minus stands only before a nonzero rotation"
-abbrev pub negated_to : FieldAt → FieldAt
-negated_to (Whole (Within n) end) = cond (eqb (nat_abs n) 0) NoWhole (Whole (Within (neg_ℤ n)) end)
-negated_to (Whole Above end) = Whole Above end
-negated_to NoWhole = NoWhole
+-- what a minus makes of the number after it, whose field ends here: "a minus stands only before a nonzero rotation"
+abbrev pub negated_to : ℕ → Std.Option ℤ → Std.Option FieldAt
+negated_to end (Some n) = cond (eqb (nat_abs n) 0) None (Some (record { number = Some (neg_ℤ n); end = end }))
+negated_to end None = Some (record { number = None; end = end })
 
--- whether a minus can turn what was read: a number within the largest is not below zero, and no more than the largest that any caller can name
-abbrev pub is_unsigned : FieldAt → Bool
-is_unsigned (Whole (Within (pos n)) end) = leb n 4294967295
-is_unsigned (Whole (Within (negsuc n)) end) = false
-is_unsigned (Whole Above end) = true
-is_unsigned NoWhole = true
+-- whether a minus can turn it: a number within the largest is not below zero, and no more than the largest that any caller can name
+abbrev pub is_unsigned : Std.Option ℤ → Bool
+is_unsigned (Some (pos n)) = leb n 4294967295
+is_unsigned (Some (negsuc n)) = false
+is_unsigned None = true

@@ -11,19 +11,15 @@ use lib.Dec.{eqb}
 use lib.IntN.{ℤ}
 use lib.ListN.{length, take, drop}
 use Rattle.fields.specs.Pieces.{Bytes, tab, split, in_front}
-use Rattle.fields.specs.Numbers.{is_digit, number_of, amount_of}
+use Rattle.fields.specs.Numbers.{is_digit, number_of, without_minus, amount_of}
 use Rattle.fields.specs.Digits.{digits_in, amount_in}
-use Rattle.fields.specs.declared.Field.{Field}
-use Rattle.fields.specs.declared.Field.TheVariants.{Number, NoNumber}
-use Rattle.fields.specs.declared.Amount.{Amount}
-use Rattle.fields.specs.declared.Amount.TheVariants.{By, NoAmount}
 use Rattle.fields.proofs.Each as E
 use Rattle.fields.proofs.Each.{Each}
 use Rattle.fields.proofs.PieceLaws.{split_some}
 use Rattle.fields.proofs.DigitLaws.{Digit}
 use Rattle.fields.proofs.SpanLaws.{DigitOr, digit, other, digit_or, is_digit_lem, digits_in_more, digits_in_other, digit_by_digit, amount_in_plain}
 use Rattle.fields.proofs.NumberLaws.{decimal_number, decimal_digits, amount_read, AmountRead, as_number, after_minus_lem}
-use Rattle.rows.specs.Fields.{Holds, operand, amount, natural, signed, read_field, both, read_fields}
+use Rattle.rows.specs.Fields.{Holds, operand, amount, read_field, both, read_fields}
 use Rattle.forms.specs.Along.{line_in, is_closed, numbers_in}
 
 -- ---- a byte is a line feed, a tab or another
@@ -140,15 +136,15 @@ each_at (c ∷ p) b w (E.one h hs) = each_at p b w hs
 no_digit : {X : Type 0} {b : ℕ} → Digit b → is_digit b ≡ false → X
 no_digit {b = b} d n = let t = is_digit_lem b d in absurd (let z : ◌≡◌ {A = ℕ} 0 1 = cc in omega arith)
 
-number_bytes : (f : Bytes) {n : ℕ} → number_of f ≡ Number n → Each Digit f
+number_bytes : (f : Bytes) {n : ℕ} → number_of f ≡ some n → Each Digit f
 number_bytes f {n} e = rw (← decimal_number f e) (decimal_digits n)
 
-number_reads : Digits (λ f. natural (number_of f))
+number_reads : Digits (λ f. without_minus (number_of f))
 number_reads p b w n = go (number_of (p ++ (b ∷ w))) refl
   where
-    go : (r : Field) → number_of (p ++ (b ∷ w)) ≡ r → natural r ≡ none
-    go NoNumber e = refl
-    go (Number m) e = no_digit (each_at p b w (number_bytes (p ++ (b ∷ w)) e)) n
+    go : (r : Option ℕ) → number_of (p ++ (b ∷ w)) ≡ r → without_minus r ≡ none
+    go none e = refl
+    go (some m) e = no_digit (each_at p b w (number_bytes (p ++ (b ∷ w)) e)) n
 
 tail_bytes : {f : Bytes} {t : ℤ} → AmountRead f t → Each Digit (drop 1 f)
 tail_bytes (as_number {f = f} e) = go f (number_bytes f e)
@@ -165,47 +161,47 @@ head_byte b w n read = go read refl n
     go (as_number {f = f} e) same n = E.each_first (rw same at (number_bytes f e))
     go (after_minus_lem {bs = bs} e) same n = absurd (n (let s : b ≡ 45 = cc in s))
 
-amount_tail_reads : (c : ℕ) → Digits (λ f. signed (amount_of (c ∷ f)))
+amount_tail_reads : (c : ℕ) → Digits (λ f. amount_of (c ∷ f))
 amount_tail_reads c p b w n = go (amount_of (c ∷ (p ++ (b ∷ w)))) refl
   where
-    go : (r : Amount) → amount_of (c ∷ (p ++ (b ∷ w))) ≡ r → signed r ≡ none
-    go NoAmount e = refl
-    go (By t) e = no_digit (each_at p b w (tail_bytes (amount_read (c ∷ (p ++ (b ∷ w))) e))) n
+    go : (r : Option ℤ) → amount_of (c ∷ (p ++ (b ∷ w))) ≡ r → r ≡ none
+    go none e = refl
+    go (some t) e = no_digit (each_at p b w (tail_bytes (amount_read (c ∷ (p ++ (b ∷ w))) e))) n
 
-amount_head_reads : (b : ℕ) (w : Bytes) → (b ≡ 45 → ⊥) → is_digit b ≡ false → signed (amount_of (b ∷ w)) ≡ none
+amount_head_reads : (b : ℕ) (w : Bytes) → (b ≡ 45 → ⊥) → is_digit b ≡ false → amount_of (b ∷ w) ≡ none
 amount_head_reads b w m n = go (amount_of (b ∷ w)) refl
   where
-    go : (r : Amount) → amount_of (b ∷ w) ≡ r → signed r ≡ none
-    go NoAmount e = refl
-    go (By t) e = no_digit (head_byte b w m (amount_read (b ∷ w) e)) n
+    go : (r : Option ℤ) → amount_of (b ∷ w) ≡ r → r ≡ none
+    go none e = refl
+    go (some t) e = no_digit (head_byte b w m (amount_read (b ∷ w) e)) n
 
 -- ---- a number with a sign, or without, then the byte after it
 amount_along :
     (fs : List Holds) (u : Bytes) →
-    reading (λ f. signed (amount_of f)) fs u ≡ both (signed (amount_of (take (amount_in u) u))) (numbers_in fs (drop (amount_in u) u))
+    reading amount_of fs u ≡ both (amount_of (take (amount_in u) u)) (numbers_in fs (drop (amount_in u) u))
 unfolding amount_in
-amount_along fs [] = reads_nothing (λ f. signed (amount_of f)) fs
+amount_along fs [] = reads_nothing amount_of fs
 amount_along fs (b ∷ bs) =
     elim (ℕ_discrete b 45) [
-      | yes e ↦ rw e (reads_on (λ f. signed (amount_of f)) fs 45 bs refl refl ∙ digits_along fs bs (λ f. signed (amount_of (45 ∷ f))) (amount_tail_reads 45))
+      | yes e ↦ rw e (reads_on amount_of fs 45 bs refl refl ∙ digits_along fs bs (λ f. amount_of (45 ∷ f)) (amount_tail_reads 45))
       | no m ↦ rw (amount_in_plain b bs m) (go m (digit_or b))
     ]
   where
     go : (b ≡ 45 → ⊥) → DigitOr b →
-        reading (λ f. signed (amount_of f)) fs (b ∷ bs)
-        ≡ both (signed (amount_of (take (digits_in (b ∷ bs)) (b ∷ bs)))) (numbers_in fs (drop (digits_in (b ∷ bs)) (b ∷ bs)))
+        reading amount_of fs (b ∷ bs)
+        ≡ both (amount_of (take (digits_in (b ∷ bs)) (b ∷ bs))) (numbers_in fs (drop (digits_in (b ∷ bs)) (b ∷ bs)))
     go m (digit d) =
         rw (digits_in_more b bs d)
-        (reads_on (λ f. signed (amount_of f)) fs b bs (ne_eqb b 9 (λ e. omega arith)) (ne_eqb b 10 (λ e. omega arith))
-        ∙ digits_along fs bs (λ f. signed (amount_of (b ∷ f))) (amount_tail_reads b))
-    go m (other n) = rw (digits_in_other b bs n) (stops (λ f. signed (amount_of f)) fs b bs (λ w x y. amount_head_reads b w m n))
+        (reads_on amount_of fs b bs (ne_eqb b 9 (λ e. omega arith)) (ne_eqb b 10 (λ e. omega arith))
+        ∙ digits_along fs bs (λ f. amount_of (b ∷ f)) (amount_tail_reads b))
+    go m (other n) = rw (digits_in_other b bs n) (stops amount_of fs b bs (λ w x y. amount_head_reads b w m n))
 
 pub number_field :
     (fs : List Holds) (u : Bytes) →
-    numbers_in (operand ∷ fs) (9 ∷ u) ≡ both (natural (number_of (take (digits_in u) u))) (numbers_in fs (drop (digits_in u) u))
-number_field fs u = reads_first operand fs u ∙ digits_along fs u (λ f. natural (number_of f)) number_reads
+    numbers_in (operand ∷ fs) (9 ∷ u) ≡ both (without_minus (number_of (take (digits_in u) u))) (numbers_in fs (drop (digits_in u) u))
+number_field fs u = reads_first operand fs u ∙ digits_along fs u (λ f. without_minus (number_of f)) number_reads
 
 pub amount_field :
     (most : ℕ) (fs : List Holds) (u : Bytes) →
-    numbers_in (amount most ∷ fs) (9 ∷ u) ≡ both (signed (amount_of (take (amount_in u) u))) (numbers_in fs (drop (amount_in u) u))
+    numbers_in (amount most ∷ fs) (9 ∷ u) ≡ both (amount_of (take (amount_in u) u)) (numbers_in fs (drop (amount_in u) u))
 amount_field most fs u = reads_first (amount most) fs u ∙ amount_along fs u

@@ -15,31 +15,27 @@ use lib.IntN.{ℤ, pos, nat_abs}
 use lib.ListN.{length, take, drop, get_or, set, length-drop, length-set}
 use lib.Seq.{append_snoc, drop-drop, take-suc-set, get_or-set_same, get_or-set_other}
 use mir.Syntax.{w64}
-use mir.Val.{SFits, to_z, of_z}
-use mir.ValLaws.{to_z-of_z}
+use mir.Val.{to_z, of_z}
 use Rattle.fields.specs.Pieces.{Bytes, tab, line_feed, split}
-use Rattle.fields.specs.Numbers.{number_of, amount_of}
+use Rattle.fields.specs.Numbers.{number_of, without_minus, amount_of}
 use Rattle.fields.specs.Digits.{digits_in, amount_in}
 use Rattle.fields.specs.Places.{begins, size_of, number_to, amount_to, number_at, amount_at, field_at}
-use Rattle.fields.specs.declared.Field.{Field}
-use Rattle.fields.specs.declared.Field.TheVariants.{Number, NoNumber}
-use Rattle.fields.specs.declared.Amount.{Amount}
-use Rattle.fields.specs.declared.Amount.TheVariants.{By, NoAmount}
-use Rattle.fields.specs.declared.Size.{Size}
-use Rattle.fields.specs.declared.Size.TheVariants.{Within, Above}
 use Rattle.fields.specs.declared.FieldAt.{FieldAt}
-use Rattle.fields.specs.declared.FieldAt.TheVariants.{Whole, NoWhole}
 use Rattle.fields.proofs.SpanLaws.{digits_in_more, digits_in_other, digit_by_digit, amount_in_plain}
 use Rattle.fields.proofs.NumberLaws.{number_below, amount_below}
-use Rattle.fields.proofs.FieldLaws.{begins_is}
+use Rattle.fields.proofs.FieldLaws.{begins_is, given_is}
 use Rattle.fields.proofs.PieceLaws.{split_some}
-use Rattle.rows.specs.Fields.{Holds, operand, amount, natural, signed, both, read_fields}
+use Rattle.rows.specs.Fields.{Holds, operand, amount, both, read_fields}
 use Rattle.rows.proofs.FieldLaws as F
 use Rattle.rows.proofs.FieldLaws.{Held}
-use Rattle.forms.specs.declared.NumbersAt.{NumbersAt}
-use Rattle.forms.specs.declared.NumbersAt.TheVariants.{Numbers, NotOfForm, OutOfRange}
+use Rattle.std.specs.Prelude as Std
+use Rattle.std.specs.Prelude.{Some, None, Result, Err}
+use Rattle.model.specs.declared.Fault.{Fault}
+use Rattle.model.specs.declared.Fault.TheVariants.{NotOfForm}
+use Rattle.forms.specs.declared.FieldsAsked.{FieldsAsked}
+use Rattle.forms.specs.declared.Numbers.{Numbers}
 use Rattle.forms.specs.Along.{line_in, is_closed, numbers_in}
-use Rattle.forms.specs.Asked.{signed_at, largest_at, outside_at, held_as, field_after, Asked, asked_at, described, signed_in, largest_in, outside_in, read_as, size_in, any_outside, all_held, numbers_from, numbers_to}
+use Rattle.forms.specs.Asked.{signed_at, largest_at, outside_at, held_as, field_after, Asked, asked_at, described, signed_in, largest_in, outside_in, read_as, size_in, any_outside, all_held, numbers_from, numbers_to, unless_outside}
 use Rattle.forms.proofs.AlongLaws.{number_field, amount_field}
 use Rattle.forms.proofs.TextLaws.{Small, small_held}
 use Rattle.forms.proofs.RangeLaws.{signed_in_lem, largest_in_lem, outside_in_lem}
@@ -101,7 +97,7 @@ abbrev machine : ℤ → ℤ
 machine z = to_z w64 (of_z w64 z)
 
 -- ---- a field that was read: a small number, against the caller's largest; the line ends where it did, and the other fields are left to be read
-record FieldRead (b : Bool) (largest : ℕ) (s : Bytes) (at : ℕ) (size : Size) (end : ℕ) : Type 0 where
+record FieldRead (b : Bool) (largest : ℕ) (s : Bytes) (at : ℕ) (size : Std.Option ℤ) (end : ℕ) : Type 0 where
   number : ℤ
   held : Held (holds b) number
   sized : size ≡ size_of largest number
@@ -112,69 +108,71 @@ record FieldRead (b : Bool) (largest : ℕ) (s : Bytes) (at : ℕ) (size : Size)
 module _ (largest : ℕ) (s : Bytes) (at : ℕ) where
   amount_left : (fs : List Holds)
       → numbers_in (amount 0 ∷ fs) (9 ∷ drop at s)
-      ≡ both (signed (amount_of (take (amount_in (drop at s)) (drop at s)))) (numbers_in fs (drop (at + amount_in (drop at s)) s))
+      ≡ both (amount_of (take (amount_in (drop at s)) (drop at s))) (numbers_in fs (drop (at + amount_in (drop at s)) s))
   amount_left fs = amount_field 0 fs (drop at s) ∙ rw (drop-drop (amount_in (drop at s)) at s)
 
   number_left : (fs : List Holds)
-      → numbers_in (operand ∷ fs) (9 ∷ drop at s) ≡ both (natural (number_of (take (digits_in (drop at s)) (drop at s)))) (numbers_in fs (drop (at + digits_in (drop at s)) s))
+      → numbers_in (operand ∷ fs) (9 ∷ drop at s) ≡ both (without_minus (number_of (take (digits_in (drop at s)) (drop at s)))) (numbers_in fs (drop (at + digits_in (drop at s)) s))
   number_left fs = number_field fs (drop at s) ∙ rw (drop-drop (digits_in (drop at s)) at s)
 
-  field_read : (b : Bool) {size : Size} {end : ℕ} → field_at b largest s at ≡ Whole size end → FieldRead b largest s at size end
+  field_read : (b : Bool) {found : FieldAt} → field_at b largest s at ≡ Some found → FieldRead b largest s at found.number found.end
   unfolding number_at amount_at
-  field_read true {size} {end} e = go (amount_of (take (amount_in (drop at s)) (drop at s))) refl e
+  field_read true {found} e = go (amount_of (take (amount_in (drop at s)) (drop at s))) refl e
     where
-      go : (r : Amount) → amount_of (take (amount_in (drop at s)) (drop at s)) ≡ r → amount_to largest (at + amount_in (drop at s)) r ≡ Whole size end
-          → FieldRead true largest s at size end
-      go (By t) q e =
-          let place : at + amount_in (drop at s) ≡ end = cc in
+      go : (r : Option ℤ) → amount_of (take (amount_in (drop at s)) (drop at s)) ≡ r → amount_to largest (at + amount_in (drop at s)) r ≡ Some found
+          → FieldRead true largest s at found.number found.end
+      go (some t) q e =
+          let same = given_is e in
+          let place : at + amount_in (drop at s) ≡ found.end = ap (λ (f : FieldAt). f.end) same in
           record {
             number = t;
             held = tt;
-            sized = cc;
+            sized = sym (ap (λ (f : FieldAt). f.number) same);
             small = amount_below (take (amount_in (drop at s)) (drop at s)) q;
             line = rw (← place, ← drop-drop (amount_in (drop at s)) at s) (omega (arith, line_amount (drop at s)));
             left = λ fs. amount_left fs ∙ rw (q, place);
           }
-      go NoAmount q e = absurd (let z : ◌≡◌ {A = ℕ} 0 1 = cc in omega arith)
-  field_read false {size} {end} e = go (number_of (take (digits_in (drop at s)) (drop at s))) refl e
+      go none q e = absurd (let z : ◌≡◌ {A = ℕ} 0 1 = cc in omega arith)
+  field_read false {found} e = go (number_of (take (digits_in (drop at s)) (drop at s))) refl e
     where
-      go : (r : Field) → number_of (take (digits_in (drop at s)) (drop at s)) ≡ r → number_to largest (at + digits_in (drop at s)) r ≡ Whole size end
-          → FieldRead false largest s at size end
-      go (Number n) q e =
-          let place : at + digits_in (drop at s) ≡ end = cc in
+      go : (r : Option ℕ) → number_of (take (digits_in (drop at s)) (drop at s)) ≡ r → number_to largest (at + digits_in (drop at s)) r ≡ Some found
+          → FieldRead false largest s at found.number found.end
+      go (some n) q e =
+          let same = given_is e in
+          let place : at + digits_in (drop at s) ≡ found.end = ap (λ (f : FieldAt). f.end) same in
           record {
             number = pos n;
             held = F.number n;
-            sized = cc;
+            sized = sym (ap (λ (f : FieldAt). f.number) same);
             small = number_below (take (digits_in (drop at s)) (drop at s)) q;
             line = rw (← place, ← drop-drop (digits_in (drop at s)) at s) (omega (arith, line_digits (drop at s)));
             left = λ fs. number_left fs ∙ rw (q, place);
           }
-      go NoNumber q e = absurd (let z : ◌≡◌ {A = ℕ} 0 1 = cc in omega arith)
+      go none q e = absurd (let z : ◌≡◌ {A = ℕ} 0 1 = cc in omega arith)
 
-  field_none : (b : Bool) → field_at b largest s at ≡ NoWhole → (fs : List Holds) → numbers_in (holds b ∷ fs) (9 ∷ drop at s) ≡ none
+  field_none : (b : Bool) → field_at b largest s at ≡ None → (fs : List Holds) → numbers_in (holds b ∷ fs) (9 ∷ drop at s) ≡ none
   unfolding number_at amount_at
   field_none true e fs = amount_left fs ∙ go (amount_of (take (amount_in (drop at s)) (drop at s))) e
     where
-      go : (r : Amount) → amount_to largest (at + amount_in (drop at s)) r ≡ NoWhole → both (signed r) (numbers_in fs (drop (at + amount_in (drop at s)) s)) ≡ none
-      go (By t) e = absurd (let z : ◌≡◌ {A = ℕ} 0 1 = cc in omega arith)
-      go NoAmount e = refl
+      go : (r : Option ℤ) → amount_to largest (at + amount_in (drop at s)) r ≡ None → both r (numbers_in fs (drop (at + amount_in (drop at s)) s)) ≡ none
+      go (some t) e = absurd (let z : ◌≡◌ {A = ℕ} 0 1 = cc in omega arith)
+      go none e = refl
   field_none false e fs = number_left fs ∙ go (number_of (take (digits_in (drop at s)) (drop at s))) e
     where
-      go : (r : Field) → number_to largest (at + digits_in (drop at s)) r ≡ NoWhole → both (natural r) (numbers_in fs (drop (at + digits_in (drop at s)) s)) ≡ none
-      go (Number n) e = absurd (let z : ◌≡◌ {A = ℕ} 0 1 = cc in omega arith)
-      go NoNumber e = refl
+      go : (r : Option ℕ) → number_to largest (at + digits_in (drop at s)) r ≡ None → both (without_minus r) (numbers_in fs (drop (at + digits_in (drop at s)) s)) ≡ none
+      go (some n) e = absurd (let z : ◌≡◌ {A = ℕ} 0 1 = cc in omega arith)
+      go none e = refl
 
 -- ---- one field, after a tab
 tab_here : (s : Bytes) (at : ℕ) → begins tab (drop at s) ≡ true → drop at s ≡ 9 ∷ drop (at + 1) s
 tab_here s at h = begins_is 9 (drop at s) h ∙ ap (λ (u : Bytes). 9 ∷ u) (drop-drop 1 at s)
 
 module _ (b : Bool) (largest : ℕ) (s : Bytes) (at : ℕ) (t : Bool) (q : t ≡ begins tab (drop at s)) where
-  pub no_field : t ≡ false → NoWhole ≡ field_after b largest s at
+  pub no_field : t ≡ false → None ≡ field_after b largest s at
   unfolding field_after
   no_field h = rw (← q, h)
 
-  pub field_there : t ≡ true → (r : FieldAt) → r ≡ field_at b largest s (at + 1) → r ≡ field_after b largest s at
+  pub field_there : t ≡ true → (r : Std.Option FieldAt) → r ≡ field_at b largest s (at + 1) → r ≡ field_after b largest s at
   unfolding field_after
   field_there h r e = rw (← q, h) e
 
@@ -184,7 +182,7 @@ module _ (b : Bool) (largest : ℕ) (s : Bytes) (at : ℕ) (t : Bool) (q : t ≡
 pub ruleset field_laws = (rules, not-true, not-false, no_field, field_there, field_within)
 
 -- a field that was read after a tab, and what it leaves to be read
-pub record Stepped (f : Asked) (s : Bytes) (at : ℕ) (size : Size) (end : ℕ) : Type 0 where
+pub record Stepped (f : Asked) (s : Bytes) (at : ℕ) (size : Std.Option ℤ) (end : ℕ) : Type 0 where
   pub number : ℤ
   pub held : Held (read_as f) number
   pub sized : size ≡ size_in f number
@@ -192,12 +190,12 @@ pub record Stepped (f : Asked) (s : Bytes) (at : ℕ) (size : Size) (end : ℕ) 
   pub line : line_end s at ≡ line_end s end
   pub left : (fs : List Holds) → numbers_in (read_as f ∷ fs) (drop at s) ≡ both (some number) (numbers_in fs (drop end s))
 
-module _ (f : Asked) (s : Bytes) (at : ℕ) (r : FieldAt) (q : r ≡ field_after (signed_in f) (largest_in f) s at) where
-  pub stepped : {size : Size} {end : ℕ} → r ≡ Whole size end → Stepped f s at size end
+module _ (f : Asked) (s : Bytes) (at : ℕ) (r : Std.Option FieldAt) (q : r ≡ field_after (signed_in f) (largest_in f) s at) where
+  pub stepped : {found : FieldAt} → r ≡ Some found → Stepped f s at found.number found.end
   unfolding field_after
-  stepped {size} {end} e = go (begins tab (drop at s)) refl (sym q ∙ e)
+  stepped {found} e = go (begins tab (drop at s)) refl (sym q ∙ e)
     where
-      go : (t : Bool) → begins tab (drop at s) ≡ t → cond t (field_at (signed_in f) (largest_in f) s (at + 1)) NoWhole ≡ Whole size end → Stepped f s at size end
+      go : (t : Bool) → begins tab (drop at s) ≡ t → cond t (field_at (signed_in f) (largest_in f) s (at + 1)) None ≡ Some found → Stepped f s at found.number found.end
       go false h v = absurd (let z : ◌≡◌ {A = ℕ} 0 1 = cc in omega arith)
       go true h v =
           let field = field_read (largest_in f) s (at + 1) (signed_in f) v in
@@ -210,42 +208,42 @@ module _ (f : Asked) (s : Bytes) (at : ℕ) (r : FieldAt) (q : r ≡ field_after
             left = λ fs. ap (numbers_in (read_as f ∷ fs)) (tab_here s at h) ∙ field.left fs;
           }
 
-  pub missing : r ≡ NoWhole → (fs : List Holds) → numbers_in (read_as f ∷ fs) (drop at s) ≡ none
+  pub missing : r ≡ None → (fs : List Holds) → numbers_in (read_as f ∷ fs) (drop at s) ≡ none
   unfolding field_after
   missing e fs = go (begins tab (drop at s)) refl (sym q ∙ e)
     where
-      go : (t : Bool) → begins tab (drop at s) ≡ t → cond t (field_at (signed_in f) (largest_in f) s (at + 1)) NoWhole ≡ NoWhole
+      go : (t : Bool) → begins tab (drop at s) ≡ t → cond t (field_at (signed_in f) (largest_in f) s (at + 1)) None ≡ None
           → numbers_in (read_as f ∷ fs) (drop at s) ≡ none
       go false h v = no_tab (read_as f) fs (drop at s) h
       go true h v = ap (numbers_in (read_as f ∷ fs)) (tab_here s at h) ∙ field_none (largest_in f) s (at + 1) (signed_in f) v fs
 
-held_small : (l : ℕ) (size : Size) (z : ℤ) → size ≡ size_of l z → Small z → Small (held_as size)
-held_small l size z e h = subst (λ (x : Size). Small (held_as x)) (sym e) (go (leb (nat_abs z) l))
+held_small : (l : ℕ) (size : Std.Option ℤ) (z : ℤ) → size ≡ size_of l z → Small z → Small (held_as size)
+held_small l size z e h = subst (λ (x : Std.Option ℤ). Small (held_as x)) (sym e) (go (leb (nat_abs z) l))
   where
-    go : (b : Bool) → Small (held_as (cond b (Within z) Above))
+    go : (b : Bool) → Small (held_as (cond b (Some z) None))
     go true = h
     go false = omega arith
 
 -- ---- the loop's invariant: the numbers of the fields before field i are read, and held as they are held; the others are 0; what is left of the line is
 -- read from `at` on
-pub record Reading (count operands : ℕ) (least : ℤ) (largest third : ℕ) (s : Bytes) (start : ℕ) (numbers : List ℤ) (outside : Bool) (at i : ℕ) : Type 0 where
-  few : count ≤ 3
-  within : i ≤ count
+pub record Reading (asked : FieldsAsked) (s : Bytes) (start : ℕ) (numbers : List ℤ) (outside : Bool) (at i : ℕ) : Type 0 where
+  few : asked.count ≤ 3
+  within : i ≤ asked.count
   wide : length numbers ≡ 3
   small : (k : ℕ) → Small (get_or numbers k (pos 0))
   free : (k : ℕ) → i ≤ k → get_or numbers k (pos 0) ≡ pos 0
   line : line_end s start ≡ line_end s at
   so_far : List ℤ
-  left : numbers_in (map read_as (described count (asked_at operands least largest third))) (drop start s)
-      ≡ Option.map (λ ms. so_far ++ ms) (numbers_in (map read_as (drop i (described count (asked_at operands least largest third)))) (drop at s))
-  found : (ms : List ℤ) → any_outside (described count (asked_at operands least largest third)) (so_far ++ ms)
-      ≡ (outside || any_outside (drop i (described count (asked_at operands least largest third))) ms)
-  held : (ms : List ℤ) → all_held (described count (asked_at operands least largest third)) (so_far ++ ms)
-      ≡ take i numbers ++ all_held (drop i (described count (asked_at operands least largest third))) ms
+  left : numbers_in (map read_as (described asked)) (drop start s)
+      ≡ Option.map (λ ms. so_far ++ ms) (numbers_in (map read_as (drop i (described asked))) (drop at s))
+  found : (ms : List ℤ) → any_outside (described asked) (so_far ++ ms)
+      ≡ (outside || any_outside (drop i (described asked)) ms)
+  held : (ms : List ℤ) → all_held (described asked) (so_far ++ ms)
+      ≡ take i numbers ++ all_held (drop i (described asked)) ms
 
-pub reading_start : (count operands : ℕ) (least : ℤ) (largest third : ℕ) (s : Bytes) (start : ℕ) → count ≤ 3
-    → Reading count operands least largest third s start (pos 0 ∷ pos 0 ∷ pos 0 ∷ []) false start 0
-reading_start count operands least largest third s start few =
+pub reading_start : (asked : FieldsAsked) (s : Bytes) (start : ℕ) → asked.count ≤ 3
+    → Reading asked s start (pos 0 ∷ pos 0 ∷ pos 0 ∷ []) false start 0
+reading_start asked s start few =
     record {
       few = few;
       within = omega arith;
@@ -254,7 +252,7 @@ reading_start count operands least largest third s start few =
       free = λ k h. zero_at k;
       line = refl;
       so_far = [];
-      left = front (numbers_in (map read_as (described count (asked_at operands least largest third))) (drop start s));
+      left = front (numbers_in (map read_as (described asked)) (drop start s));
       found = λ ms. refl;
       held = λ ms. refl;
     }
@@ -270,14 +268,14 @@ reading_start count operands least largest third s start few =
     front (some ms) = refl
 
 -- field i of a description that has it
-field_of : (count i : ℕ) (asked : ℕ → Asked) → i < count → count ≤ 3 → drop i (described count asked) ≡ asked i ∷ drop (suc i) (described count asked)
-field_of zero i asked l few = absurd (omega arith)
-field_of (suc n) zero asked l few = refl
-field_of (suc zero) (suc i) asked l few = absurd (omega arith)
-field_of (suc (suc n)) (suc zero) asked l few = refl
-field_of (suc (suc zero)) (suc (suc i)) asked l few = absurd (omega arith)
-field_of (suc (suc (suc n))) (suc (suc zero)) asked l few = refl
-field_of (suc (suc (suc n))) (suc (suc (suc i))) asked l few = absurd (omega arith)
+field_of : (count i : ℕ) (f : ℕ → Asked) → i < count → count ≤ 3 → drop i (take count (f 0 ∷ f 1 ∷ f 2 ∷ [])) ≡ f i ∷ drop (suc i) (take count (f 0 ∷ f 1 ∷ f 2 ∷ []))
+field_of zero i f l few = absurd (omega arith)
+field_of (suc n) zero f l few = refl
+field_of (suc zero) (suc i) f l few = absurd (omega arith)
+field_of (suc (suc n)) (suc zero) f l few = refl
+field_of (suc (suc zero)) (suc (suc i)) f l few = absurd (omega arith)
+field_of (suc (suc (suc n))) (suc (suc zero)) f l few = refl
+field_of (suc (suc (suc n))) (suc (suc (suc i))) f l few = absurd (omega arith)
 
 fields_end : (n : ℕ) (fs : List Asked) → drop n (take n fs) ≡ []
 fields_end zero fs = refl
@@ -300,91 +298,81 @@ or_assoc : (a b c : Bool) → (a || (b || c)) ≡ ((a || b) || c)
 or_assoc true b c = refl
 or_assoc false b c = refl
 
--- the least as the machine holds it
-module _ {count operands : ℕ} (least : ℤ) (fits : SFits w64 least) {largest third : ℕ} {s : Bytes} {start : ℕ} {numbers : List ℤ} {outside : Bool} {at i : ℕ}
-    (w : Reading count operands (machine least) largest third s start numbers outside at i) where
-  abbrev asked : ℕ → Asked
-  asked = asked_at operands (machine least) largest third
-
+module _ {asked : FieldsAsked} {s : Bytes} {start : ℕ} {numbers : List ℤ} {outside : Bool} {at i : ℕ} (w : Reading asked s start numbers outside at i) where
   abbrev fs : List Asked
-  fs = described count asked
+  fs = described asked
 
   -- what the numbers of these fields come to
-  abbrev told : ℤ → ℕ → NumbersAt
-  told z place =
-      let gs = described count (asked_at operands z largest third) in
-      numbers_to gs place (line_end s start) (numbers_in (map read_as gs) (drop start s))
+  abbrev told : Result Numbers Fault
+  told = numbers_to fs (line_end s start) (numbers_in (map read_as fs) (drop start s))
 
-  as_it_is : {r : NumbersAt} (place : ℕ) → r ≡ told (machine least) place → r ≡ told least place
-  as_it_is {r} place e = subst (λ (z : ℤ). r ≡ told z place) (to_z-of_z w64 least fits) e
-
-  module _ (l : i < count) (b : Bool) (p : b ≡ signed_at operands (machine least) i) (most : ℕ) (m : most ≡ largest_at operands largest third i) (r : FieldAt)
+  module _ (l : i < asked.count) (b : Bool) (p : b ≡ signed_at asked i) (most : ℕ) (m : most ≡ largest_at asked i) (r : Std.Option FieldAt)
       (q : r ≡ field_after b most s at) where
-    read_so : r ≡ field_after (signed_in (asked i)) (largest_in (asked i)) s at
+    read_so : r ≡ field_after (signed_in (asked_at asked i)) (largest_in (asked_at asked i)) s at
     read_so =
-        q ∙ ap₂ (λ (v : Bool) (n : ℕ). field_after v n s at) (p ∙ signed_in_lem operands (machine least) largest third i) (m ∙ largest_in_lem operands (machine least) largest third i)
+        q ∙ ap₂ (λ (v : Bool) (n : ℕ). field_after v n s at) (p ∙ signed_in_lem asked i) (m ∙ largest_in_lem asked i)
 
     -- what is left has field i first
-    next : drop i fs ≡ asked i ∷ drop (suc i) fs
-    next = field_of count i asked l w.few
+    next : drop i fs ≡ asked_at asked i ∷ drop (suc i) fs
+    next = field_of asked.count i (asked_at asked) l w.few
 
     next_left :
-        numbers_in (map read_as fs) (drop start s) ≡ Option.map (λ ms. w.so_far ++ ms) (numbers_in (read_as (asked i) ∷ map read_as (drop (suc i) fs)) (drop at s))
+        numbers_in (map read_as fs) (drop start s) ≡ Option.map (λ ms. w.so_far ++ ms) (numbers_in (read_as (asked_at asked i) ∷ map read_as (drop (suc i) fs)) (drop at s))
     next_left = w.left ∙ ap (λ (gs : List Asked). Option.map (λ ms. w.so_far ++ ms) (numbers_in (map read_as gs) (drop at s))) next
 
-    pub field_missing : (place : ℕ) → r ≡ NoWhole → NotOfForm 1 place ≡ told least place
-    field_missing place e = as_it_is place (rw (next_left, missing (asked i) s at r read_so e (map read_as (drop (suc i) fs))))
+    pub field_missing : r ≡ None → Err NotOfForm ≡ told
+    field_missing e = (rw (next_left, missing (asked_at asked i) s at r read_so e (map read_as (drop (suc i) fs))))
 
-    pub field_more : (size : Size) (end : ℕ) → r ≡ Whole size end → (o : Bool) → o ≡ outside_at operands (machine least) i size → (z : ℤ) → z ≡ held_as size
-        → Reading count operands (machine least) largest third s start (set numbers i (machine z)) (outside || o) end (i + 1)
-    field_more size end e o out z is =
-        let field = stepped (asked i) s at r read_so e in
-        let few = held_small (largest_in (asked i)) size field.number field.sized field.small in
-        rw (is, small_held (held_as size) few, add-one i)
+    pub field_more : (found : FieldAt) → r ≡ Some found → (o : Bool) → o ≡ outside_at asked i found.number → (z : ℤ) → z ≡ held_as found.number
+        → Reading asked s start (set numbers i (machine z)) (outside || o) found.end (i + 1)
+    field_more found e o out z is =
+        let field = stepped (asked_at asked i) s at r read_so e in
+        let few = held_small (largest_in (asked_at asked i)) found.number field.number field.sized field.small in
+        rw (is, small_held (held_as found.number) few, add-one i)
         (record {
           few = w.few;
           within = omega arith;
-          wide = length-set numbers i (held_as size) ∙ w.wide;
+          wide = length-set numbers i (held_as found.number) ∙ w.wide;
           small = λ k. small_set few k;
-          free = λ k h. get_or-set_other numbers i k (held_as size) (pos 0) (λ f. omega arith) ∙ w.free k (omega arith);
+          free = λ k h. get_or-set_other numbers i k (held_as found.number) (pos 0) (λ f. omega arith) ∙ w.free k (omega arith);
           line = w.line ∙ field.line;
           so_far = w.so_far ++ (field.number ∷ []);
           left = next_left ∙ ap (Option.map (λ ms. w.so_far ++ ms)) (field.left (map read_as (drop (suc i) fs)))
-              ∙ in_front_lem w.so_far field.number (numbers_in (map read_as (drop (suc i) fs)) (drop end s));
+              ∙ in_front_lem w.so_far field.number (numbers_in (map read_as (drop (suc i) fs)) (drop found.end s));
           found = λ ms. ap (any_outside fs) (append_snoc w.so_far field.number ms) ∙ w.found (field.number ∷ ms)
               ∙ ap (λ (gs : List Asked). outside || any_outside gs (field.number ∷ ms)) next
-              ∙ or_assoc outside (outside_in (asked i) (size_in (asked i) field.number)) (any_outside (drop (suc i) fs) ms)
+              ∙ or_assoc outside (outside_in (asked_at asked i) (size_in (asked_at asked i) field.number)) (any_outside (drop (suc i) fs) ms)
               ∙ ap (λ (u : Bool). (outside || u) || any_outside (drop (suc i) fs) ms)
-              (ap (outside_in (asked i)) (sym field.sized) ∙ sym (out ∙ outside_in_lem operands (machine least) largest third i size));
+              (ap (outside_in (asked_at asked i)) (sym field.sized) ∙ sym (out ∙ outside_in_lem asked i found.number));
           held = λ ms. ap (all_held fs) (append_snoc w.so_far field.number ms) ∙ w.held (field.number ∷ ms)
               ∙ ap (λ (gs : List Asked). take i numbers ++ all_held gs (field.number ∷ ms)) next
-              ∙ ap (λ (v : Size). take i numbers ++ (held_as v ∷ all_held (drop (suc i) fs) ms)) (sym field.sized)
-              ∙ sym (append_snoc (take i numbers) (held_as size) (all_held (drop (suc i) fs) ms))
-              ∙ ap (λ (ns : List ℤ). ns ++ all_held (drop (suc i) fs) ms) (sym (take-suc-set numbers i (held_as size) below));
+              ∙ ap (λ (v : Std.Option ℤ). take i numbers ++ (held_as v ∷ all_held (drop (suc i) fs) ms)) (sym field.sized)
+              ∙ sym (append_snoc (take i numbers) (held_as found.number) (all_held (drop (suc i) fs) ms))
+              ∙ ap (λ (ns : List ℤ). ns ++ all_held (drop (suc i) fs) ms) (sym (take-suc-set numbers i (held_as found.number) below));
         })
       where
         below : i < length numbers
         below = omega (arith, w.wide, w.few)
 
-        small_set : Small (held_as size) → (k : ℕ) → Small (get_or (set numbers i (held_as size)) k (pos 0))
+        small_set : Small (held_as found.number) → (k : ℕ) → Small (get_or (set numbers i (held_as found.number)) k (pos 0))
         small_set few k =
             elim (ℕ_discrete k i) [
-              | yes here ↦ rw (here, get_or-set_same numbers i (held_as size) (pos 0) below) few
-              | no n ↦ rw (get_or-set_other numbers i k (held_as size) (pos 0) n) (w.small k)
+              | yes here ↦ rw (here, get_or-set_same numbers i (held_as found.number) (pos 0) below) few
+              | no n ↦ rw (get_or-set_other numbers i k (held_as found.number) (pos 0) n) (w.small k)
             ]
 
   -- every field is read
-  module _ (l : count ≤ i) (t : Bool) (q : t ≡ begins line_feed (drop at s)) where
+  module _ (l : asked.count ≤ i) (t : Bool) (q : t ≡ begins line_feed (drop at s)) where
     none_left : drop i fs ≡ []
-    none_left = let same : i ≡ count = omega (arith, w.within) in rw same (fields_end count (asked 0 ∷ asked 1 ∷ asked 2 ∷ []))
+    none_left = let same : i ≡ asked.count = omega (arith, w.within) in rw same (fields_end asked.count (asked_at asked 0 ∷ asked_at asked 1 ∷ asked_at asked 2 ∷ []))
 
     all_left : numbers_in (map read_as fs) (drop start s) ≡ Option.map (λ ms. w.so_far ++ ms) (numbers_in [] (drop at s))
     all_left = w.left ∙ ap (λ (gs : List Asked). Option.map (λ ms. w.so_far ++ ms) (numbers_in (map read_as gs) (drop at s))) none_left
 
-    pub not_closed : (place : ℕ) → t ≡ false → NotOfForm 1 place ≡ told least place
-    not_closed place h = as_it_is place (rw (all_left, no_line_feed (drop at s) (sym q ∙ h)))
+    pub not_closed : t ≡ false → Err NotOfForm ≡ told
+    not_closed h = (rw (all_left, no_line_feed (drop at s) (sym q ∙ h)))
 
-    module _ (place : ℕ) (h : t ≡ true) where
+    module _ (h : t ≡ true) where
       closes : begins line_feed (drop at s) ≡ true
       closes = sym q ∙ h
 
@@ -406,13 +394,13 @@ module _ {count operands : ℕ} (least : ℤ) (fits : SFits w64 least) {largest 
       held_at k =
           small_held (get_or numbers k (pos 0)) (w.small k) ∙ sym (ap (λ (ns : List ℤ). get_or ns k (pos 0)) held_all ∙ cut_free i numbers w.free k)
 
-      pub all_told : (r : NumbersAt)
-          → r ≡ cond outside OutOfRange (Numbers (machine (get_or numbers 0 (pos 0))) (machine (get_or numbers 1 (pos 0))) (machine (get_or numbers 2 (pos 0))) at)
-          → r ≡ told least place
+      pub all_told : (r : Result Numbers Fault)
+          → r ≡ unless_outside outside (record { first = machine (get_or numbers 0 (pos 0)); second = machine (get_or numbers 1 (pos 0)); third = machine (get_or numbers 2 (pos 0)); end = at })
+          → r ≡ told
       all_told r e =
           let ends : line_end s start ≡ at = omega (arith, w.line, line_feed_here (drop at s) closes) in
-          let as_held : cond outside OutOfRange (Numbers (machine (get_or numbers 0 (pos 0))) (machine (get_or numbers 1 (pos 0))) (machine (get_or numbers 2 (pos 0))) at)
-          ≡ cond outside OutOfRange (numbers_from (all_held fs (w.so_far ++ [])) at) = λ i. cond outside OutOfRange (Numbers (held_at 0 i) (held_at 1 i) (held_at 2 i) at) in
-          as_it_is place (e ∙ as_held ∙ sym (rw (all_read, found_all, ends)))
+          let as_held : unless_outside outside (record { first = machine (get_or numbers 0 (pos 0)); second = machine (get_or numbers 1 (pos 0)); third = machine (get_or numbers 2 (pos 0)); end = at })
+          ≡ unless_outside outside (numbers_from (all_held fs (w.so_far ++ [])) at) = λ i. unless_outside outside (record { first = held_at 0 i; second = held_at 1 i; third = held_at 2 i; end = at }) in
+          (e ∙ as_held ∙ sym (rw (all_read, found_all, ends)))
 
 pub ruleset loop_laws = (rules, not-true, not-false, reading_start, field_missing, field_more, not_closed, all_told)

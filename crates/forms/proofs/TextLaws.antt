@@ -14,15 +14,12 @@ use mir.Syntax.{w64}
 use mir.Val.{SFits, to_z, of_z}
 use mir.ValLaws.{to_z-of_z}
 use Rattle.fields.specs.Pieces.{Bytes, tab, line_feed, split, same_bytes}
-use Rattle.fields.specs.Numbers.{number_of, amount_of}
-use Rattle.fields.specs.declared.Field.{Field}
-use Rattle.fields.specs.declared.Field.TheVariants.{Number, NoNumber}
-use Rattle.fields.specs.declared.Amount.{Amount}
-use Rattle.fields.specs.declared.Amount.TheVariants.{By, NoAmount}
+use Rattle.fields.specs.Numbers.{number_of, without_minus, amount_of}
 use Rattle.fields.proofs.NumberLaws.{number_below, amount_below}
-use Rattle.rows.specs.Fields.{Holds, operand, ranged, up_to_top, amount, natural, signed, read_field, both, read_fields}
+use Rattle.fields.proofs.DigitLaws.{some_is, none_some}
+use Rattle.rows.specs.Fields.{Holds, operand, ranged, up_to_top, amount, read_field, both, read_fields}
 use Rattle.rows.proofs.Tests.{cond_cases, and_second}
-use Rattle.rows.proofs.FieldLaws.{some_is, none_some, Held, Fields, fields_read_written}
+use Rattle.rows.proofs.FieldLaws.{Held, Fields, fields_read_written}
 use Rattle.rows.specs.Forms.{after_word, Vocabulary, named, saying, read_said}
 use Rattle.rows.specs.Lines.{Lines, lines, closed, in_front, lines_of}
 use Rattle.forms.specs.Along.{line_in, is_closed, after_line, field_in, numbers_in}
@@ -57,8 +54,8 @@ alike (f ∷ fs) [] = false
 alike (f ∷ fs) (g ∷ gs) = cond (is_signed f) (is_signed g) (cond (is_signed g) false true) && alike fs gs
 
 abbrev read_as_lem : Bool → Bytes → Option ℤ
-read_as_lem true p = signed (amount_of p)
-read_as_lem false p = natural (number_of p)
+read_as_lem true p = amount_of p
+read_as_lem false p = without_minus (number_of p)
 
 reads_as : (f : Holds) (p : Bytes) → read_field f p ≡ read_as_lem (is_signed f) p
 reads_as operand p = refl
@@ -174,13 +171,13 @@ small_held z h = to_z-of_z w64 z (small_fits z h)
 field_small : (f : Holds) (b : Bytes) {z : ℤ} → read_field f b ≡ some z → Small z
 field_small f b {z} e = go (is_signed f) (sym (reads_as f b) ∙ e)
   where
-    as_amount : (a : Amount) → amount_of b ≡ a → signed a ≡ some z → Small z
-    as_amount (By t) q v = subst Small (some_is v) (amount_below b q)
-    as_amount NoAmount q v = none_some v
+    as_amount : (a : Option ℤ) → amount_of b ≡ a → a ≡ some z → Small z
+    as_amount (some t) q v = subst Small (some_is v) (amount_below b q)
+    as_amount none q v = none_some v
 
-    as_number : (a : Field) → number_of b ≡ a → natural a ≡ some z → Small z
-    as_number (Number n) q v = subst Small (some_is v) (number_below b q)
-    as_number NoNumber q v = none_some v
+    as_number : (a : Option ℕ) → number_of b ≡ a → without_minus a ≡ some z → Small z
+    as_number (some n) q v = subst Small (some_is v) (number_below b q)
+    as_number none q v = none_some v
 
     go : (s : Bool) → read_as_lem s b ≡ some z → Small z
     go true v = as_amount (amount_of b) refl v

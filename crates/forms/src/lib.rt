@@ -4,163 +4,140 @@
 
 ghost use Rattle.std.specs.Prelude.{cond, ◌≡◌, map, ◌+◌, ◌≤◌, T, length, drop};
 ghost use Rattle.fields.specs.Pieces.{same_bytes};
-ghost use Rattle.forms.specs.declared.NumbersAt.TheVariants.{Numbers, OutOfRange};
 ghost use Rattle.forms.specs.Along.{line_in, field_in, numbers_in, ends_field, is_plain};
-ghost use Rattle.forms.specs.Asked.{signed_at, largest_at, outside_at, held_as, field_after, asked_at, described, read_as, numbers_to};
+ghost use Rattle.forms.specs.Asked.{signed_at, largest_at, outside_at, held_as, field_after, described, read_as, numbers_to, unless_outside};
 
-use fields::{FieldAt, Size};
+use fields::FieldAt;
+use model::Fault;
 
-// The numbers of a line's fields, each in its range, 0 past them, and the place of its line feed; the refusal of a line that is not of the form; or a
-// number is outside its range.
+// What is asked of the fields after a word: how many there are; how many of them, the first ones, are value numbers; and from which to which number each
+// other one is, the third up to a largest of its own.
 #[derive(Clone, Copy)]
-pub enum NumbersAt {
-    Numbers {
-        first: i64,
-        second: i64,
-        third: i64,
-        end: usize,
-    },
-    NotOfForm {
-        number: u32,
-        place: u32,
-    },
-    OutOfRange,
+pub struct FieldsAsked {
+    pub count: usize,
+    pub operands: usize,
+    pub least: i64,
+    pub largest: u32,
+    pub third: u32,
+}
+
+// The numbers of a line's fields, each in its range, 0 past them, and the place of its line feed.
+#[derive(Clone, Copy)]
+pub struct Numbers {
+    pub first: i64,
+    pub second: i64,
+    pub third: i64,
+    pub end: usize,
 }
 
 // Whether a field that stands before this place ends here: at a tab, a line feed or the text's end.
+#[tactic(auto, using(crate::proofs::WordLaws::end_laws))]
 fn ends_field(text: &[u8], at: usize) -> bool
     ensures { result ≡ ends_field (drop at text.now) }
 {
-    if text.len() <= at {
-        return true;
-    }
-    let b = text[at];
-    if b == b'\t' {
-        return true;
-    }
-    b == b'\n'
+    text.len() <= at || text[at] == b'\t' || text[at] == b'\n'
 }
 
 // Whether the line's first field is this word.
+#[tactic(auto, using(crate::proofs::WordLaws::word_laws))]
 pub fn is_word_at(text: &[u8], at: usize, word: &[u8]) -> bool
     requires at_in_bounds { at ≤ length text.now }
     requires t { T (is_plain word.now) }
     ensures { result ≡ same_bytes (field_in (drop at text.now)) word.now }
 {
-    if text.len() - at < word.len() {
-        return false;
-    }
-    let end = at + word.len();
-    if !ends_field(text, end) {
-        return false;
-    }
-    fields::same(&text[at..end], word)
+    word.len() <= text.len() - at
+        && ends_field(text, at + word.len())
+        && fields::same(&text[at..at + word.len()], word)
 }
 
 // ---- field i, counted from 0
-// The first so many are value numbers, each other is from `least` to its largest. A sign is read where `least` is below zero.
-fn is_signed(operands: usize, least: i64, i: usize) -> bool
-    ensures { result ≡ signed_at operands least i }
-{
-    if i < operands {
-        return false;
+impl FieldsAsked {
+    // A sign is read where the least is below zero. A value number has none.
+    #[tactic(auto, unfolding(crate::specs::Asked::signed_at))]
+    fn is_signed(&self, i: usize) -> bool
+        ensures { result ≡ signed_at self.now i }
+    {
+        self.operands <= i && self.least < 0
     }
-    least < 0
-}
 
-// No file has a value above 1,791. The third field has a largest of its own.
-fn largest_at(operands: usize, largest: u32, third: u32, i: usize) -> u32
-    ensures { result ≡ largest_at operands largest third i }
-{
-    if i < operands {
-        return 1791;
+    // No file has a value above 1,791.
+    #[tactic(auto, unfolding(crate::specs::Asked::largest_at))]
+    fn largest_at(&self, i: usize) -> u32
+        ensures { result ≡ largest_at self.now i }
+    {
+        if i < self.operands {
+            1791
+        } else if i == 2 {
+            self.third
+        } else {
+            self.largest
+        }
     }
-    if i == 2 {
-        return third;
-    }
-    largest
-}
 
-// Whether its number is outside its range. A value number has none.
-fn is_outside(operands: usize, least: i64, i: usize, number: Size) -> bool
-    ensures { result ≡ outside_at operands least i number }
-{
-    if i < operands {
-        return false;
-    }
-    match number {
-        Size::Within(n) => n < least,
-        Size::Above => true,
+    // Whether its number is outside its range. A value number has none.
+    #[tactic(auto, unfolding(crate::specs::Asked::outside_at))]
+    fn is_outside(&self, i: usize, number: Option<i64>) -> bool
+        ensures { result ≡ outside_at self.now i number }
+    {
+        self.operands <= i && number.is_none_or(|n| n < self.least)
     }
 }
 
 // Its number as it is held. A value number above every line's is held as 1,792, which names no line either.
-fn held(number: Size) -> i64
+fn held(number: Option<i64>) -> i64
     ensures { result ≡ held_as number }
 {
-    match number {
-        Size::Within(n) => n,
-        Size::Above => 1792,
-    }
+    number.unwrap_or(1792)
 }
 
 // A tab here, and then the number of a field with a sign, or without, against the largest that it may have.
-pub fn field_after(text: &[u8], at: usize, signed: bool, largest: u32) -> FieldAt
+#[tactic(auto, using(crate::proofs::StepLaws::field_laws))]
+pub fn field_after(text: &[u8], at: usize, signed: bool, largest: u32) -> Option<FieldAt>
     ensures { result ≡ field_after signed largest text.now at }
 {
     if !fields::is_at(text, at, b'\t') {
-        return FieldAt::NoWhole;
+        return None;
     }
     fields::field_at(text, at + 1, signed, largest)
 }
 
 // ---- the fields of a line
 // The numbers of a line that is of the form, unless one is outside its range.
-fn ranged(outside: bool, first: i64, second: i64, third: i64, end: usize) -> NumbersAt
-    ensures { result ≡ cond outside OutOfRange (Numbers first second third end) }
+fn ranged(outside: bool, first: i64, second: i64, third: i64, end: usize) -> Result<Numbers, Fault>
+    ensures { result ≡ unless_outside outside (record { first = first; second = second; third = third; end = end }) }
 {
     if outside {
-        return NumbersAt::OutOfRange;
+        return Err(Fault::NumberOutOfRange);
     }
-    NumbersAt::Numbers {
+    Ok(Numbers {
         first,
         second,
         third,
         end,
-    }
+    })
 }
 
-// So many fields after a word that ends at `start`, of which the first are value numbers, and a line feed after the last.
-pub fn numbers_at(
-    place: u32,
-    text: &[u8],
-    start: usize,
-    count: usize,
-    operands: usize,
-    least: i64,
-    largest: u32,
-    third: u32,
-) -> NumbersAt
-    requires { count ≤ 3 }
-    ensures { result ≡ numbers_to (described count (asked_at operands least largest third)) place (start + length (line_in (drop start text.now))) (numbers_in (map read_as (described count (asked_at operands least largest third))) (drop start text.now)) }
+// The numbers of the fields that are asked for after a word that ends at `start`, with a line feed after the last.
+pub fn numbers_at(text: &[u8], start: usize, asked: &FieldsAsked) -> Result<Numbers, Fault>
+    requires { asked.now.count ≤ 3 }
+    ensures { result ≡ numbers_to (described asked.now) (start + length (line_in (drop start text.now))) (numbers_in (map read_as (described asked.now)) (drop start text.now)) }
 {
     let mut numbers = [0i64; 3];
     let mut outside = false;
     let mut at = start;
-    let mut i: usize = 0;
-    while i < count {
-        let signed = is_signed(operands, least, i);
-        let most = largest_at(operands, largest, third, i);
-        let FieldAt::Whole { number, end } = field_after(text, at, signed, most) else {
-            return NumbersAt::NotOfForm { number: 1, place };
+    for i in 0..asked.count {
+        let signed = asked.is_signed(i);
+        let most = asked.largest_at(i);
+        let Some(field) = field_after(text, at, signed, most) else {
+            return Err(Fault::NotOfForm);
         };
-        outside = outside | is_outside(operands, least, i, number);
-        numbers[i] = held(number);
-        at = end;
-        i += 1;
+        // No return before the line's end: what is not of the form is refused as that, before any range.
+        outside |= asked.is_outside(i, field.number);
+        numbers[i] = held(field.number);
+        at = field.end;
     }
     if !fields::is_at(text, at, b'\n') {
-        return NumbersAt::NotOfForm { number: 1, place };
+        return Err(Fault::NotOfForm);
     }
     ranged(outside, numbers[0], numbers[1], numbers[2], at)
 }

@@ -13,12 +13,10 @@ use lib.Signed.{non_neg}
 use lib.ListN.{length, drop, length-drop}
 use mir.Syntax.{w32, w64}
 use mir.Val.{Fits, to_z, of_z}
+use Rattle.std.specs.Prelude as Std
 use Rattle.fields.specs.Pieces.{Bytes, tab, line_feed, split, same_bytes}
 use Rattle.fields.specs.Places.{begins, size_of}
-use Rattle.fields.specs.declared.Size.{Size}
-use Rattle.fields.specs.declared.Size.TheVariants.{Within, Above}
 use Rattle.fields.specs.declared.FieldAt.{FieldAt}
-use Rattle.fields.specs.declared.FieldAt.TheVariants.{Whole, NoWhole}
 use Rattle.fields.proofs.FieldLaws.{begins_is}
 use Rattle.fields.proofs.PieceLaws.{same_bytes_lem}
 use Rattle.rows.specs.Fields.{Holds, operand, within, both}
@@ -28,8 +26,6 @@ use Rattle.rows.proofs.FieldLaws.{Natural, number}
 use Rattle.model.specs.declared.Grammar.{Grammar}
 use Rattle.model.specs.declared.Grammar.TheVariants.{Circuit, Schedule}
 use Rattle.model.specs.declared.Header.{Header}
-use Rattle.model.specs.declared.Headroom.{Headroom}
-use Rattle.model.specs.declared.Headroom.TheVariants.{None, Given}
 use Rattle.model.specs.Scales.{three_fields, header_fields, header_in_range}
 use Rattle.model.proofs.Tests as Tests
 use Rattle.model.proofs.Tests.{header_facts}
@@ -42,10 +38,10 @@ use Rattle.forms.specs.Asked.{field_after, Asked}
 use Rattle.forms.proofs.WordLaws.{uncut, field_line}
 use Rattle.forms.proofs.StepLaws.{no_line_feed, line_feed_lem, line_feed_here, line_end, Stepped, stepped, missing}
 use Rattle.forms.proofs.TextLaws.{titled_reads, alike, alike_numbers, small_held}
-use Rattle.headers.specs.declared.NumberAt.{NumberAt}
-use Rattle.headers.specs.declared.NumberAt.TheVariants.{Number, NoNumber}
-use Rattle.headers.specs.declared.HeaderRead.{HeaderRead}
-use Rattle.headers.specs.Headers.{header_word_of, number_to, number_at, header_with, is_outside, has_outside, held_judged, header_read, header_to, header_tests, numbers_judged, header_judged}
+use Rattle.std.specs.Prelude.{Result, Ok, Err, Some, None, unwrap_or}
+use Rattle.model.specs.declared.Refusal.{Refusal}
+use Rattle.model.specs.Refusals.{told}
+use Rattle.headers.specs.Headers.{header_word_of, number_to, number_at, header_with, has_outside, held_judged, header_to, header_tests, numbers_judged, header_judged, not_of_form}
 
 -- ---- the word, and its length
 module _ (levels : Levels) (g : Grammar) (t : Bytes) (r : Bool) where
@@ -74,20 +70,20 @@ pub ruleset word_laws = (rules, rising_word, circuit_word, schedule_word, rising
 abbrev asked : Asked
 asked = A.number (pos 1) 60
 
-record NumberRead (s : Bytes) (at : ℕ) (size : Size) (end : ℕ) : Type 0 where
+record NumberRead (s : Bytes) (at : ℕ) (field : FieldAt) : Type 0 where
   value : ℕ
-  sized : size ≡ size_of 60 (pos value)
-  line : line_end s at ≡ line_end s end
-  left : (fs : List Holds) → numbers_in (operand ∷ fs) (drop at s) ≡ both (some (pos value)) (numbers_in fs (drop end s))
+  sized : field.number ≡ size_of 60 (pos value)
+  line : line_end s at ≡ line_end s field.end
+  left : (fs : List Holds) → numbers_in (operand ∷ fs) (drop at s) ≡ both (some (pos value)) (numbers_in fs (drop field.end s))
 
-number_read : (s : Bytes) (at : ℕ) (r : FieldAt) → r ≡ field_after false 60 s at → {size : Size} {end : ℕ} → r ≡ Whole size end → NumberRead s at size end
-number_read s at r q {size} {end} is =
-    let step : Stepped asked s at size end = stepped asked s at r q is in
+number_read : (s : Bytes) (at : ℕ) (r : Std.Option FieldAt) → r ≡ field_after false 60 s at → {field : FieldAt} → r ≡ Std.Some field → NumberRead s at field
+number_read s at r q {field} is =
+    let step : Stepped asked s at field.number field.end = stepped asked s at r q is in
     go step.number step.held step.sized step.left step.line
   where
-    go : (z : ℤ) → Natural z → size ≡ size_of 60 z
-        → ((fs : List Holds) → numbers_in (operand ∷ fs) (drop at s) ≡ both (some z) (numbers_in fs (drop end s)))
-        → line_end s at ≡ line_end s end → NumberRead s at size end
+    go : (z : ℤ) → Natural z → field.number ≡ size_of 60 z
+        → ((fs : List Holds) → numbers_in (operand ∷ fs) (drop at s) ≡ both (some z) (numbers_in fs (drop field.end s)))
+        → line_end s at ≡ line_end s field.end → NumberRead s at field
     go z (number n) sized left line = record { value = n; sized = sized; line = line; left = left }
 
 -- as the code holds it
@@ -99,37 +95,34 @@ pub record Ranged (z : ℤ) : Type 0 where
   pub fits : Fits w32 (nat_abs (machine z))
   pub is : nat_abs (machine z) ≡ nat_abs z
 
-within_ranged : (n : ℕ) {z : ℤ} → Within z ≡ size_of 60 (pos n) → Ranged z
-within_ranged n {z} e = go (leb n 60) refl e
+sized_ranged : (n : ℕ) → Ranged (unwrap_or (size_of 60 (pos n)) (pos 0))
+sized_ranged n = go (leb n 60) refl
   where
-    here : n ≤ 60 → Ranged (pos n)
-    here most =
+    here : (n : ℕ) → n ≤ 60 → Ranged (pos n)
+    here n most =
         let held : machine (pos n) ≡ pos n = small_held (pos n) (omega arith) in
         record { unsigned = rw held tt; fits = rw held (record { fits = omega arith }); is = ap nat_abs held }
 
-    go : (b : Bool) → leb n 60 ≡ b → Within z ≡ cond b (Within (pos n)) Above → Ranged z
-    go true q v = let same : pos n ≡ z = cc in subst Ranged same (here (leb→le n 60 (subst T (sym q) tt)))
-    go false q v = absurd (let y : ◌≡◌ {A = ℕ} 0 1 = cc in omega arith)
+    go : (b : Bool) → leb n 60 ≡ b → Ranged (unwrap_or (cond b (Std.Some (pos n)) Std.None) (pos 0))
+    go true q = here n (leb→le n 60 (subst T (sym q) tt))
+    go false q = here 0 (omega arith)
 
-module _ (s : Bytes) (at : ℕ) (r : FieldAt) (q : r ≡ field_after false 60 s at) where
-  pub no_number : r ≡ NoWhole → NoNumber ≡ number_at s at
+module _ (s : Bytes) (at : ℕ) (r : Std.Option FieldAt) (q : r ≡ field_after false 60 s at) where
+  pub no_number : r ≡ Std.None → Err not_of_form ≡ number_at s at
   unfolding number_at
   no_number is = rw (← q, is)
 
-  module _ (size : Size) (end : ℕ) (is : r ≡ Whole size end) where
-    pub number_above : size ≡ Above → Number 0 end ≡ number_at s at
+  module _ (field : FieldAt) (is : r ≡ Std.Some field) (z : ℤ) (e : z ≡ unwrap_or field.number (pos 0)) where
+    pub number_ranged : Ranged z
+    number_ranged =
+        let there = number_read s at r q is in
+        rw (e, there.sized) (sized_ranged there.value)
+
+    pub number_held : Ok ((nat_abs (machine z)), field.end) ≡ number_at s at
     unfolding number_at
-    number_above e = rw (← q, is, e)
+    number_held = rw (← q, is, ← e) (ap (λ (n : ℕ). Ok (n, field.end)) number_ranged.is)
 
-    module _ (z : ℤ) (e : size ≡ Within z) where
-      pub number_ranged : Ranged z
-      number_ranged = let there = number_read s at r q is in within_ranged there.value (sym e ∙ there.sized)
-
-      pub number_within : Number (nat_abs (machine z)) end ≡ number_at s at
-      unfolding number_at
-      number_within = rw (← q, is, e) (ap (λ (n : ℕ). Number n end) number_ranged.is)
-
-pub ruleset number_laws = (rules, no_number, number_above, number_ranged, number_within)
+pub ruleset number_laws = (rules, no_number, number_ranged, number_held)
 
 -- ---- the numbers of a header as they are held
 abbrev held : ℕ → ℕ
@@ -148,30 +141,9 @@ held_same : {n : ℕ} → Tests.Within 1 60 n → held n ≡ n
 held_same {n} w = rw (le-leb n 60 w.most)
 
 -- where a headroom is given, its number is held so too
-abbrev held_room : Headroom → Headroom
+abbrev held_room : Std.Option ℕ → Std.Option ℕ
 held_room None = None
-held_room (Given bits) = Given (held bits)
-
-pub headroom_none : (given : Headroom) → given ≡ None → false ≡ is_outside given
-headroom_none given e = rw e
-
-pub headroom_given : (given : Headroom) (bits : ℕ) → given ≡ Given bits → eqb bits 0 ≡ is_outside given
-headroom_given given bits e = rw e
-
-module _ (h : Header) where
-  pub factor_outside : h.factor ≡ 0 → true ≡ has_outside h
-  factor_outside e = rw e
-
-  module _ (f : h.factor ≡ 0 → ⊥) where
-    pub waterline_outside : h.waterline ≡ 0 → true ≡ has_outside h
-    waterline_outside e = rw (ne_eqb h.factor 0 f, e)
-
-    module _ (w : h.waterline ≡ 0 → ⊥) where
-      pub top_outside : h.top ≡ 0 → true ≡ has_outside h
-      top_outside e = rw (ne_eqb h.factor 0 f, ne_eqb h.waterline 0 w, e)
-
-      pub others_inside : (h.top ≡ 0 → ⊥) → (r : Bool) → r ≡ is_outside h.headroom → r ≡ has_outside h
-      others_inside l r q = rw (ne_eqb h.factor 0 f, ne_eqb h.waterline 0 w, ne_eqb h.top 0 l) q
+held_room (Some bits) = Some (held bits)
 
 module _ (h : Header) (end : ℕ) (b : Bool) (q : b ≡ has_outside h) where
   pub is_ranged : b ≡ false → read (h, end) ≡ header_to end (held_judged h)
@@ -180,10 +152,10 @@ module _ (h : Header) (end : ℕ) (b : Bool) (q : b ≡ has_outside h) where
   pub not_ranged : b ≡ true → refused 2 1 ≡ header_to end (held_judged h)
   not_ranged e = rw (← q, e)
 
-pub ruleset range_laws = (rules, not-true, not-false, headroom_none, headroom_given, factor_outside, waterline_outside, top_outside, others_inside, is_ranged, not_ranged)
+pub ruleset range_laws = (rules, not-true, not-false, is_ranged, not_ranged)
 
 -- a header is judged by them as by its numbers
-module _ (f w l : ℕ) (given : Headroom) where
+module _ (f w l : ℕ) (given : Std.Option ℕ) where
   abbrev as_read : Header
   as_read = header_with f w l given
 
@@ -199,16 +171,16 @@ module _ (f w l : ℕ) (given : Headroom) where
       three true false c d = refl
       three false b c d = refl
 
-      go : (given : Headroom) → has_outside (header_with (held f) (held w) (held l) (held_room given)) ≡ not (header_in_range (header_with f w l given))
+      go : (given : Std.Option ℕ) → has_outside (header_with (held f) (held w) (held l) (held_room given)) ≡ not (header_in_range (header_with f w l given))
       go None = (λ i. held_in f i || (held_in w i || (held_in l i || false))) ∙ three (within 1 60 f) (within 1 60 w) (within 1 60 l) true
-      go (Given bits) = (λ i. held_in f i || (held_in w i || (held_in l i || held_in bits i))) ∙ three (within 1 60 f) (within 1 60 w) (within 1 60 l) (within 1 60 bits)
+      go (Some bits) = (λ i. held_in f i || (held_in w i || (held_in l i || held_in bits i))) ∙ three (within 1 60 f) (within 1 60 w) (within 1 60 l) (within 1 60 bits)
 
   judged_held : held_judged as_held ≡ judged (header_tests as_read) as_read
   judged_held = ap (λ (b : Bool). cond b (bad 2) (good as_held)) outside_held ∙ go (header_in_range as_read) refl
     where
-      room_same : (given : Headroom) → Tests.HeadroomFacts given → held_room given ≡ given
+      room_same : (given : Std.Option ℕ) → Tests.HeadroomFacts given → held_room given ≡ given
       room_same None facts = refl
-      room_same (Given bits) facts = ap Given (held_same facts)
+      room_same (Some bits) facts = ap Some (held_same facts)
 
       go : (b : Bool) → header_in_range as_read ≡ b → cond (not b) (bad 2) (good as_held) ≡ cond b (good as_read) (bad 2)
       go true q =
@@ -223,25 +195,26 @@ record NumberThere (s : Bytes) (at n end : ℕ) : Type 0 where
   line : line_end s at ≡ line_end s end
   left : (fs : List Holds) → numbers_in (operand ∷ fs) (drop at s) ≡ both (some (pos value)) (numbers_in fs (drop end s))
 
-module _ (s : Bytes) (at : ℕ) (r : NumberAt) (q : r ≡ number_at s at) where
-  there : {n end : ℕ} → r ≡ Number n end → NumberThere s at n end
+module _ (s : Bytes) (at : ℕ) (r : Result (ℕ × ℕ) Refusal) (q : r ≡ number_at s at) where
+  there : {n end : ℕ} → r ≡ Ok (n, end) → NumberThere s at n end
   unfolding number_at
   there {n} {end} is = go (field_after false 60 s at) refl (sym q ∙ is)
     where
-      as_held : (m e : ℕ) → number_to (Whole (size_of 60 (pos m)) e) ≡ Number (held m) e
+      as_held : (m e : ℕ) → number_to (Std.Some (record { number = size_of 60 (pos m); end = e })) ≡ Ok ((held m), e)
       as_held m e = by_size (leb m 60)
         where
-          by_size : (b : Bool) → number_to (Whole (cond b (Within (pos m)) Above) e) ≡ Number (cond b m 0) e
+          by_size : (b : Bool) → number_to (Std.Some (record { number = cond b (Std.Some (pos m)) Std.None; end = e })) ≡ Ok ((cond b m 0), e)
           by_size true = refl
           by_size false = refl
 
-      go : (x : FieldAt) → field_after false 60 s at ≡ x → number_to x ≡ Number n end → NumberThere s at n end
-      go NoWhole p v = absurd (let z : ◌≡◌ {A = ℕ} 0 1 = cc in omega arith)
-      go (Whole size e) p v =
+      go : (x : Std.Option FieldAt) → field_after false 60 s at ≡ x → number_to x ≡ Ok (n, end) → NumberThere s at n end
+      go Std.None p v = absurd (let z : ◌≡◌ {A = ℕ} 0 1 = cc in omega arith)
+      go (Std.Some field) p v =
           let read = number_read s at (field_after false 60 s at) refl p in
-          let same : Number (held read.value) e ≡ Number n end = sym (as_held read.value e) ∙ ap (λ (z : Size). number_to (Whole z e)) (sym read.sized) ∙ v in
-          let place : e ≡ end = cc in
-          let holds : n ≡ held read.value = cc in
+          let same : ◌≡◌ {A = Result (ℕ × ℕ) Refusal} (Ok ((held read.value), field.end)) (Ok (n, end)) = sym (as_held read.value field.end) ∙ ap (λ (z : Std.Option ℤ). number_to (Std.Some (record { number = z; end = field.end }))) (sym read.sized) ∙ v in
+          let pair : ◌≡◌ {A = ℕ × ℕ} (held read.value, field.end) (n, end) = cc in
+          let place : field.end ≡ end = ap (λ (p : ℕ × ℕ). p.1) pair in
+          let holds : n ≡ held read.value = sym (ap (λ (p : ℕ × ℕ). p.0) pair) in
           record {
             value = read.value;
             is = holds;
@@ -249,14 +222,21 @@ module _ (s : Bytes) (at : ℕ) (r : NumberAt) (q : r ≡ number_at s at) where
             left = λ fs. read.left fs ∙ ap (λ (m : ℕ). both (some (pos read.value)) (numbers_in fs (drop m s))) place;
           }
 
-  not_there : r ≡ NoNumber → (fs : List Holds) → numbers_in (operand ∷ fs) (drop at s) ≡ none
+  not_there : {y : Refusal} → r ≡ Err y → (fs : List Holds) → numbers_in (operand ∷ fs) (drop at s) ≡ none
   unfolding number_at
-  not_there is fs = go (field_after false 60 s at) refl (sym q ∙ is)
+  not_there {y} is fs = go (field_after false 60 s at) refl (sym q ∙ is)
     where
-      go : (x : FieldAt) → field_after false 60 s at ≡ x → number_to x ≡ NoNumber → numbers_in (operand ∷ fs) (drop at s) ≡ none
-      go NoWhole p v = missing asked s at (field_after false 60 s at) refl p fs
-      go (Whole (Within z) e) p v = absurd (let y : ◌≡◌ {A = ℕ} 0 1 = cc in omega arith)
-      go (Whole Above e) p v = absurd (let y : ◌≡◌ {A = ℕ} 0 1 = cc in omega arith)
+      go : (x : Std.Option FieldAt) → field_after false 60 s at ≡ x → number_to x ≡ Err y → numbers_in (operand ∷ fs) (drop at s) ≡ none
+      go Std.None p v = missing asked s at (field_after false 60 s at) refl p fs
+      go (Std.Some field) p v = absurd (let y : ◌≡◌ {A = ℕ} 0 1 = cc in omega arith)
+
+  told_unread : {x : Refusal} → r ≡ Err x → told {A = Header × ℕ} (Err x) ≡ refused 1 1
+  unfolding number_at
+  told_unread {x} is = go (field_after false 60 s at) (sym q ∙ is)
+    where
+      go : (f : Std.Option FieldAt) → number_to f ≡ Err x → told {A = Header × ℕ} (Err x) ≡ refused 1 1
+      go Std.None v = let same : not_of_form ≡ x = cc in sym (ap (λ (y : Refusal). told {A = Header × ℕ} (Err y)) same)
+      go (Std.Some field) v = absurd (let y : ◌≡◌ {A = ℕ} 0 1 = cc in omega arith)
 
 -- ---- the numbers after a word that ends here: three, or else four
 pub past_fits : (s : Bytes) (at : ℕ) (t : Bool) → t ≡ begins line_feed (drop at s) → t ≡ true → Fits w64 (length s) → Fits w64 (at + 1)
@@ -284,25 +264,25 @@ module _ (s : Bytes) (start : ℕ) where
   unformed : ((fs : List Holds) → numbers_in (operand ∷ operand ∷ operand ∷ fs) rest ≡ none) → refused 1 1 ≡ header_to whole (numbers_judged rest)
   unformed lacks = sym (ap (header_to whole) (judged_by (lacks []) (lacks (operand ∷ []))))
 
-  module _ (r₁ : NumberAt) (q₁ : r₁ ≡ number_at s start) where
-    pub no_first : r₁ ≡ NoNumber → refused 1 1 ≡ header_to whole (numbers_judged rest)
-    no_first is = unformed (λ fs. not_there s start r₁ q₁ is (operand ∷ operand ∷ fs))
+  module _ (r₁ : Result (ℕ × ℕ) Refusal) (q₁ : r₁ ≡ number_at s start) where
+    pub no_first : (x : Refusal) → r₁ ≡ Err x → told {A = Header × ℕ} (Err x) ≡ header_to whole (numbers_judged rest)
+    no_first x is = told_unread s start r₁ q₁ is ∙ unformed (λ fs. not_there s start r₁ q₁ is (operand ∷ operand ∷ fs))
 
-    module _ (f e₁ : ℕ) (is₁ : r₁ ≡ Number f e₁) (r₂ : NumberAt) (q₂ : r₂ ≡ number_at s e₁) where
+    module _ (f e₁ : ℕ) (is₁ : r₁ ≡ Ok (f, e₁)) (r₂ : Result (ℕ × ℕ) Refusal) (q₂ : r₂ ≡ number_at s e₁) where
       first : NumberThere s start f e₁
       first = there s start r₁ q₁ is₁
 
-      pub no_second : r₂ ≡ NoNumber → refused 1 1 ≡ header_to whole (numbers_judged rest)
-      no_second is = unformed (λ fs. first.left (operand ∷ operand ∷ fs) ∙ rw (not_there s e₁ r₂ q₂ is (operand ∷ fs)))
+      pub no_second : (x : Refusal) → r₂ ≡ Err x → told {A = Header × ℕ} (Err x) ≡ header_to whole (numbers_judged rest)
+      no_second x is = told_unread s e₁ r₂ q₂ is ∙ unformed (λ fs. first.left (operand ∷ operand ∷ fs) ∙ rw (not_there s e₁ r₂ q₂ is (operand ∷ fs)))
 
-      module _ (w e₂ : ℕ) (is₂ : r₂ ≡ Number w e₂) (r₃ : NumberAt) (q₃ : r₃ ≡ number_at s e₂) where
+      module _ (w e₂ : ℕ) (is₂ : r₂ ≡ Ok (w, e₂)) (r₃ : Result (ℕ × ℕ) Refusal) (q₃ : r₃ ≡ number_at s e₂) where
         second : NumberThere s e₁ w e₂
         second = there s e₁ r₂ q₂ is₂
 
-        pub no_third : r₃ ≡ NoNumber → refused 1 1 ≡ header_to whole (numbers_judged rest)
-        no_third is = unformed (λ fs. first.left (operand ∷ operand ∷ fs) ∙ rw (second.left (operand ∷ fs), not_there s e₂ r₃ q₃ is fs))
+        pub no_third : (x : Refusal) → r₃ ≡ Err x → told {A = Header × ℕ} (Err x) ≡ header_to whole (numbers_judged rest)
+        no_third x is = told_unread s e₂ r₃ q₃ is ∙ unformed (λ fs. first.left (operand ∷ operand ∷ fs) ∙ rw (second.left (operand ∷ fs), not_there s e₂ r₃ q₃ is fs))
 
-        module _ (l e₃ : ℕ) (is₃ : r₃ ≡ Number l e₃) (t : Bool) (q : t ≡ begins line_feed (drop e₃ s)) where
+        module _ (l e₃ : ℕ) (is₃ : r₃ ≡ Ok (l, e₃)) (t : Bool) (q : t ≡ begins line_feed (drop e₃ s)) where
           third : NumberThere s e₂ l e₃
           third = there s e₂ r₃ q₃ is₃
 
@@ -313,30 +293,30 @@ module _ (s : Bytes) (start : ℕ) where
           three_left fs = first.left (operand ∷ operand ∷ fs) ∙ rw (second.left (operand ∷ fs), third.left fs)
 
           -- the numbers as they are read, and as they are held
-          abbrev as_read_with : Headroom → Header
+          abbrev as_read_with : Std.Option ℕ → Header
           as_read_with given = header_with first.value second.value third.value given
 
-          told : (given : Headroom) {end : ℕ} → line_end s e₃ ≡ end → numbers_judged rest ≡ judged (header_tests (as_read_with given)) (as_read_with given)
+          told_so : (given : Std.Option ℕ) {end : ℕ} → line_end s e₃ ≡ end → numbers_judged rest ≡ judged (header_tests (as_read_with given)) (as_read_with given)
               → header_to (end + 1) (held_judged (header_with f w l (held_room given))) ≡ header_to whole (numbers_judged rest)
-          told given ends e =
+          told_so given ends e =
               ap₂ (λ (m : ℕ) (j : Judgement Header). header_to (m + 1) j) (sym (first.line ∙ second.line ∙ third.line ∙ ends))
               ((λ i. held_judged (header_with (first.is i) (second.is i) (third.is i) (held_room given))) ∙ judged_held first.value second.value third.value given ∙ sym e)
 
           module _ (closes : t ≡ true) where
-            pub three_told : (r : HeaderRead) → header_read r ≡ header_to (e₃ + 1) (held_judged (header_with f w l None)) → header_read r ≡ header_to whole (numbers_judged rest)
+            pub three_told : (r : Result (Header × ℕ) Refusal) → told r ≡ header_to (e₃ + 1) (held_judged (header_with f w l None)) → told r ≡ header_to whole (numbers_judged rest)
             three_told r says =
                 let closed = sym q ∙ closes in
-                says ∙ told None (omega (arith, line_feed_here (drop e₃ s) closed))
+                says ∙ told_so None (omega (arith, line_feed_here (drop e₃ s) closed))
                 (judged_by (three_left [] ∙ ap three_and (line_feed_lem (drop e₃ s) closed)) refl)
 
-          module _ (open-there : t ≡ false) (r₄ : NumberAt) (q₄ : r₄ ≡ number_at s e₃) where
+          module _ (open-there : t ≡ false) (r₄ : Result (ℕ × ℕ) Refusal) (q₄ : r₄ ≡ number_at s e₃) where
             no_three : numbers_in (operand ∷ operand ∷ operand ∷ []) rest ≡ none
             no_three = three_left [] ∙ ap three_and (no_line_feed (drop e₃ s) (sym q ∙ open-there))
 
-            pub no_fourth : r₄ ≡ NoNumber → refused 1 1 ≡ header_to whole (numbers_judged rest)
-            no_fourth is = sym (ap (header_to whole) (judged_by no_three (three_left (operand ∷ []) ∙ ap three_and (not_there s e₃ r₄ q₄ is []))))
+            pub no_fourth : (x : Refusal) → r₄ ≡ Err x → told {A = Header × ℕ} (Err x) ≡ header_to whole (numbers_judged rest)
+            no_fourth x is = told_unread s e₃ r₄ q₄ is ∙ sym (ap (header_to whole) (judged_by no_three (three_left (operand ∷ []) ∙ ap three_and (not_there s e₃ r₄ q₄ is []))))
 
-            module _ (b e₄ : ℕ) (is₄ : r₄ ≡ Number b e₄) (u : Bool) (p : u ≡ begins line_feed (drop e₄ s)) where
+            module _ (b e₄ : ℕ) (is₄ : r₄ ≡ Ok (b, e₄)) (u : Bool) (p : u ≡ begins line_feed (drop e₄ s)) where
               fourth : NumberThere s e₃ b e₄
               fourth = there s e₃ r₄ q₄ is₄
 
@@ -350,11 +330,11 @@ module _ (s : Bytes) (start : ℕ) where
               not_closed e = sym (ap (header_to whole) (judged_by no_three (four_left ∙ ap four_and (no_line_feed (drop e₄ s) (sym p ∙ e)))))
 
               module _ (closes : u ≡ true) where
-                pub four_told : (r : HeaderRead) → header_read r ≡ header_to (e₄ + 1) (held_judged (header_with f w l (Given b))) → header_read r ≡ header_to whole (numbers_judged rest)
+                pub four_told : (r : Result (Header × ℕ) Refusal) → told r ≡ header_to (e₄ + 1) (held_judged (header_with f w l (Some b))) → told r ≡ header_to whole (numbers_judged rest)
                 four_told r says =
                     let closed = sym p ∙ closes in
-                    says ∙ ap (λ (n : ℕ). header_to (e₄ + 1) (held_judged (header_with f w l (Given n)))) fourth.is
-                    ∙ told (Given fourth.value) (fourth.line ∙ omega (arith, line_feed_here (drop e₄ s) closed))
+                    says ∙ ap (λ (n : ℕ). header_to (e₄ + 1) (held_judged (header_with f w l (Some n)))) fourth.is
+                    ∙ told_so (Some fourth.value) (fourth.line ∙ omega (arith, line_feed_here (drop e₄ s) closed))
                     (judged_by no_three (four_left ∙ ap four_and (line_feed_lem (drop e₄ s) closed)))
 
 pub ruleset numbers_laws =
@@ -387,8 +367,8 @@ module _ (levels : Levels) (g : Grammar) (t : Bytes) where
     pub other_word_lem : u ≡ false → refused 1 1 ≡ header_to (length (line_in t) + 1) (header_judged levels g t)
     other_word_lem h = let refuses : header_judged levels g t ≡ bad 1 = after_word_lem ∙ rw (← q, h) in sym (ap (header_to (length (line_in t) + 1)) refuses)
 
-    pub its_numbers : u ≡ true → (start : ℕ) → start ≡ length title → (r : HeaderRead) → header_read r ≡ header_to (line_end t start + 1) (numbers_judged (drop start t))
-        → header_read r ≡ header_to (length (line_in t) + 1) (header_judged levels g t)
+    pub its_numbers : u ≡ true → (start : ℕ) → start ≡ length title → (r : Result (Header × ℕ) Refusal) → told r ≡ header_to (line_end t start + 1) (numbers_judged (drop start t))
+        → told r ≡ header_to (length (line_in t) + 1) (header_judged levels g t)
     its_numbers h start k r says =
         let past : length (field_in t) ≡ start = ap length (same_bytes_lem (field_in t) title (subst T (sym h ∙ q) tt)) ∙ sym k in
         let judged_so : header_judged levels g t ≡ numbers_judged (drop start t) = after_word_lem ∙ rw (← q, h, past) in

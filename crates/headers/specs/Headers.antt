@@ -1,16 +1,14 @@
 -- What the code uses: the header line that a text begins with, and what an answer says of it.
-use Rattle.std.specs.Prelude.{ℕ, Bool, false, cond, ◌||◌, [], ◌∷◌, eqb, nat_abs}
+use Rattle.std.specs.Prelude.{Result, Ok, Err, ℕ, Bool, false, cond, ◌||◌, [], ◌∷◌, eqb, pos, nat_abs, Option, Some, None, unwrap_or}
 use Rattle.std.proofs.Math.Option.{map}
 use Rattle.fields.specs.Pieces.{Bytes}
-use Rattle.fields.specs.declared.Size.TheVariants.{Within, Above}
 use Rattle.fields.specs.declared.FieldAt.{FieldAt}
-use Rattle.fields.specs.declared.FieldAt.TheVariants.{Whole, NoWhole}
 use Rattle.rows.specs.Forms.{Form, or_else}
-use Rattle.rows.specs.Rows.{Judgement, good, bad, Reading, read, refused, Tests, formed, at}
+use Rattle.rows.specs.Rows.{Judgement, good, bad, Reading, read, Tests, formed, at}
 use Rattle.model.specs.declared.Grammar.{Grammar}
 use Rattle.model.specs.declared.Header.{Header}
-use Rattle.model.specs.declared.Headroom.{Headroom}
-use Rattle.model.specs.declared.Headroom.TheVariants.{None, Given}
+use Rattle.model.specs.declared.Refusal.{Refusal}
+use Rattle.model.specs.declared.Fault.TheVariants.{NotOfForm}
 use Rattle.model.specs.Scales.{three_fields, header_fields, header_in_range}
 use Rattle.model.specs.Words.{ascii}
 use Rattle.text.specs.Files.{header_word, header_of, header_under}
@@ -18,10 +16,6 @@ use Rattle.listings.specs.declared.Levels.{Levels}
 use Rattle.listings.specs.declared.Levels.TheVariants.{Falling, Rising}
 use Rattle.forms.specs.Along.{line_in, is_closed, numbers_in}
 use Rattle.forms.specs.Asked.{field_after}
-use Rattle.headers.specs.declared.NumberAt.{NumberAt}
-use Rattle.headers.specs.declared.NumberAt.TheVariants.{Number, NoNumber}
-use Rattle.headers.specs.declared.HeaderRead.{HeaderRead}
-use Rattle.headers.specs.declared.HeaderRead.TheVariants as Headers
 
 -- ---- its word and its form
 abbrev pub header_word_of : Levels → Grammar → Bytes
@@ -31,29 +25,27 @@ header_word_of Rising g = ascii "rising"
 abbrev pub header_form_of : Levels → Grammar → Form Header
 header_form_of levels g = header_under (header_word_of levels g)
 
-abbrev pub header_read : HeaderRead → Reading (Header × ℕ)
-header_read (Headers.Head h end) = read (h, end)
-header_read (Headers.Bad n place) = refused n place
-
 abbrev pub header_to : ℕ → Judgement Header → Reading (Header × ℕ)
 header_to end j = at 1 j (λ h. read (h, end))
 
 -- one of its numbers, after a tab that stands here, as it is held: 0 where it is above 60
-abbrev pub number_to : FieldAt → NumberAt
-number_to NoWhole = NoNumber
-number_to (Whole (Within n) end) = Number (nat_abs n) end
-number_to (Whole Above end) = Number 0 end
+abbrev pub not_of_form : Refusal
+not_of_form = record { fault = NotOfForm; place = 1 }
 
-unfoldable pub number_at : Bytes → ℕ → NumberAt
+abbrev pub number_to : Option FieldAt → Result (ℕ × ℕ) Refusal
+number_to (Some field) = Ok (nat_abs (unwrap_or field.number (pos 0)), field.end)
+number_to None = Err not_of_form
+
+unfoldable pub number_at : Bytes → ℕ → Result (ℕ × ℕ) Refusal
 number_at s at = number_to (field_after false 60 s at)
 
 -- the numbers as they are held: 0 is outside their range
-abbrev pub header_with : ℕ → ℕ → ℕ → Headroom → Header
+abbrev pub header_with : ℕ → ℕ → ℕ → Option ℕ → Header
 header_with f w l given = record { factor = f; waterline = w; top = l; headroom = given }
 
-abbrev pub is_outside : Headroom → Bool
+abbrev pub is_outside : Option ℕ → Bool
 is_outside None = false
-is_outside (Given bits) = eqb bits 0
+is_outside (Some bits) = eqb bits 0
 
 abbrev pub has_outside : Header → Bool
 has_outside h = eqb h.factor 0 || (eqb h.waterline 0 || (eqb h.top 0 || is_outside h.headroom))

@@ -4,30 +4,17 @@
 ghost use Rattle.std.specs.Prelude.{◌≡◌, ◌+◌, length, drop};
 ghost use Rattle.fields.specs.Pieces.{same_bytes};
 ghost use Rattle.forms.specs.Along.{line_in, field_in};
-ghost use Rattle.headers.specs.Headers.{header_word_of, number_at, is_outside, has_outside, header_with, held_judged, header_read, header_to, numbers_judged, header_judged};
+ghost use Rattle.model.specs.Refusals.{told};
+ghost use Rattle.headers.specs.Headers.{header_word_of, number_at, has_outside, header_with, held_judged, header_to, numbers_judged, header_judged};
 
-use fields::{FieldAt, Size};
 use listings::Levels;
-use model::{Grammar, Header, Headroom};
+use model::{Fault, Grammar, Header, Refusal};
 
-// A header line that was read, and the place past its line feed; or a refusal.
-#[derive(Clone, Copy)]
-pub enum HeaderRead {
-    Head { header: Header, end: usize },
-    Bad { number: u32, place: u32 },
-}
-
-const NOT_OF_FORM: HeaderRead = HeaderRead::Bad {
-    number: 1,
+// The header is the first line of its file.
+const NOT_OF_FORM: Refusal = Refusal {
+    fault: Fault::NotOfForm,
     place: 1,
 };
-
-// A number of the header, 0 where it is outside its range, and the place past it; or there is none.
-#[derive(Clone, Copy)]
-pub enum NumberAt {
-    Number(u32, usize),
-    NoNumber,
-}
 
 // Whether the text begins with the header word of a listing, where levels rise, or else of the grammar.
 #[tactic(auto, using(crate::proofs::HeaderLaws::word_laws))]
@@ -56,50 +43,34 @@ fn header_end(levels: Levels, grammar: Grammar) -> usize
     }
 }
 
-// The number after a tab that stands here.
+// The number after a tab that stands here, 0 where it is outside its range, and the place past it.
 #[tactic(auto, using(crate::proofs::HeaderLaws::number_laws))]
-fn number_at(text: &[u8], at: usize) -> NumberAt
+fn number_at(text: &[u8], at: usize) -> Result<(u32, usize), Refusal>
     ensures { result ≡ number_at text.now at }
 {
-    match forms::field_after(text, at, false, 60) {
-        FieldAt::NoWhole => NumberAt::NoNumber,
-        FieldAt::Whole { number, end } => match number {
-            Size::Within(n) => NumberAt::Number(n as u32, end),
-            Size::Above => NumberAt::Number(0, end),
-        },
-    }
+    let Some(field) = forms::field_after(text, at, false, 60) else {
+        return Err(NOT_OF_FORM);
+    };
+    Ok((field.number.unwrap_or(0) as u32, field.end))
 }
 
-// Whether a headroom is outside its range.
-fn is_outside(headroom: Headroom) -> bool
-    ensures { result ≡ is_outside headroom }
-{
-    match headroom {
-        Headroom::None => false,
-        Headroom::Given(bits) => bits == 0,
-    }
-}
-
-// Whether a number of a header is.
+// Whether a number of a header is outside its range.
 fn has_outside(header: Header) -> bool
     ensures { result ≡ has_outside header }
 {
-    if header.factor == 0 {
-        return true;
-    }
-    if header.waterline == 0 {
-        return true;
-    }
-    if header.top == 0 {
-        return true;
-    }
-    let headroom = header.headroom;
-    is_outside(headroom)
+    header.factor == 0 || header.waterline == 0 || header.top == 0 || header.headroom == Some(0)
 }
 
 // A header of these numbers, whose line ends before `end`.
-fn ranged(factor: u32, waterline: u32, top: u32, headroom: Headroom, end: usize) -> HeaderRead
-    ensures { header_read result ≡ header_to end (held_judged (header_with factor waterline top headroom)) }
+#[tactic(auto, using(crate::proofs::HeaderLaws::range_laws))]
+fn ranged(
+    factor: u32,
+    waterline: u32,
+    top: u32,
+    headroom: Option<u32>,
+    end: usize,
+) -> Result<(Header, usize), Refusal>
+    ensures { told result ≡ header_to end (held_judged (header_with factor waterline top headroom)) }
 {
     let header = Header {
         factor,
@@ -108,45 +79,43 @@ fn ranged(factor: u32, waterline: u32, top: u32, headroom: Headroom, end: usize)
         headroom,
     };
     if has_outside(header) {
-        return HeaderRead::Bad {
-            number: 2,
+        return Err(Refusal {
+            fault: Fault::HeaderOutOfRange,
             place: 1,
-        };
+        });
     }
-    HeaderRead::Head { header, end }
+    Ok((header, end))
 }
 
 // What follows a word that ends at `start`: three numbers, or four, and a line feed.
-fn read_numbers(text: &[u8], start: usize) -> HeaderRead
-    ensures { header_read result ≡ header_to (start + length (line_in (drop start text.now)) + 1) (numbers_judged (drop start text.now)) }
+#[tactic(auto, using(crate::proofs::HeaderLaws::numbers_laws))]
+fn read_numbers(text: &[u8], start: usize) -> Result<(Header, usize), Refusal>
+    ensures { told result ≡ header_to (start + length (line_in (drop start text.now)) + 1) (numbers_judged (drop start text.now)) }
 {
-    let NumberAt::Number(factor, end) = number_at(text, start) else {
-        return NOT_OF_FORM;
-    };
-    let NumberAt::Number(waterline, end) = number_at(text, end) else {
-        return NOT_OF_FORM;
-    };
-    let NumberAt::Number(top, end) = number_at(text, end) else {
-        return NOT_OF_FORM;
-    };
+    let (factor, end) = number_at(text, start)?;
+    let (waterline, end) = number_at(text, end)?;
+    let (top, end) = number_at(text, end)?;
     if fields::is_at(text, end, b'\n') {
-        return ranged(factor, waterline, top, Headroom::None, end + 1);
+        return ranged(factor, waterline, top, None, end + 1);
     }
-    let NumberAt::Number(bits, end) = number_at(text, end) else {
-        return NOT_OF_FORM;
-    };
+    let (bits, end) = number_at(text, end)?;
     if !fields::is_at(text, end, b'\n') {
-        return NOT_OF_FORM;
+        return Err(NOT_OF_FORM);
     }
-    ranged(factor, waterline, top, Headroom::Given(bits), end + 1)
+    ranged(factor, waterline, top, Some(bits), end + 1)
 }
 
 // The header line that a text begins with.
-pub fn read_header(levels: Levels, grammar: Grammar, text: &[u8]) -> HeaderRead
-    ensures { header_read result ≡ header_to (length (line_in text.now) + 1) (header_judged levels grammar text.now) }
+#[tactic(auto, using(crate::proofs::HeaderLaws::header_laws))]
+pub fn read_header(
+    levels: Levels,
+    grammar: Grammar,
+    text: &[u8],
+) -> Result<(Header, usize), Refusal>
+    ensures { told result ≡ header_to (length (line_in text.now) + 1) (header_judged levels grammar text.now) }
 {
     if !is_header(levels, grammar, text) {
-        return NOT_OF_FORM;
+        return Err(NOT_OF_FORM);
     }
     read_numbers(text, header_end(levels, grammar))
 }

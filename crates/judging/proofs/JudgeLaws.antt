@@ -1,5 +1,5 @@
 -- Operands and kinds of a line, by its word and the numbers after it, and its numbers in a record. Assumes nothing.
-use Prim.Native.Nat.{ℕ, ◌+◌, ◌/◌, ◌%◌}
+use Prim.Native.Nat.{ℕ, ◌+◌}
 use native.Mathlib.Omega.{arith}
 use mathlib.Core.Path.{◌≡◌, refl, sym, ap, ap₂, ◌∙◌, subst}
 use mathlib.Core.Bool.{Bool, true, false, ◌&&◌}
@@ -15,29 +15,30 @@ use mir.Val.{Fits, SFits, to_z, of_z}
 use mir.ValLaws.{to_z-of_z}
 use Rattle.ints.specs.Parts.{positive}
 use Rattle.rows.specs.Rows as Rows
-use Rattle.rows.specs.Rows.{place_of, refused}
+use Rattle.rows.specs.Rows.{place_of, refused, judged}
 use Rattle.model.specs.declared.Grammar.{Grammar}
-use Rattle.model.specs.declared.Kind.{Kind}
 use Rattle.model.specs.declared.Kind.TheVariants.{Nothing}
 use Rattle.model.specs.declared.Line.{Line}
 use Rattle.model.specs.declared.Line.TheVariants as Lines
 use Rattle.model.specs.declared.Word.{Word}
 use Rattle.model.specs.declared.Word.TheVariants.{Const, Rot}
+use Rattle.model.specs.Refusals.{number_of}
 use Rattle.model.specs.Words.{Asks, no_operand, a_ciphertext, a_constant, a_pair, entry}
 use Rattle.model.specs.Numbering.{same_word}
-use Rattle.model.specs.Files.{line_of, operands, kind_at, is_ciphertext, is_constant, is_usable, is_pair, every_usable, asks_for, kinds_fit}
+use Rattle.model.specs.Files.{line_of, operands, kind_at, is_usable, every_usable, asks_for, kinds_fit}
 use Rattle.model.proofs.EveryWord.{each_word, same_word_lem}
-use Rattle.tables.specs.Records.{amount_from, second_held}
-use Rattle.tables.proofs.Words.{line_word, halves_line}
+use Rattle.tables.specs.declared.Record.{Record}
+use Rattle.tables.specs.Records as Records
+use Rattle.tables.specs.Records.{amount_from, second_held, line_with}
+use Rattle.tables.proofs.Words.{line_word}
 use Rattle.words.specs.declared.OperandsAsked.{OperandsAsked}
 use Rattle.words.specs.declared.OperandsAsked.TheVariants.{NoOperand, Ciphertext, Constant, Pair}
 use Rattle.words.specs.Words.{operands_asked, row_of}
-use Rattle.judging.specs.declared.kinds.Fitness.{Fitness}
-use Rattle.judging.specs.declared.kinds.Fitness.TheVariants.{Fit, Unusable, WrongKind}
-use Rattle.judging.specs.declared.LineRead.{LineRead}
-use Rattle.judging.specs.declared.LineRead.TheVariants.{Good}
-use Rattle.judging.specs.Judging as Judging
-use Rattle.judging.specs.Judging.{fitness, usable_by, kinds_fit_by, fitness_by, SecondFits, NumbersFit, line_read, line_to, judged_as}
+use Rattle.model.specs.declared.Fault.{Fault}
+use Rattle.model.specs.declared.Fault.TheVariants.{NoUsableLine, WrongKind}
+use Rattle.judging.specs.declared.StoredLine.{StoredLine}
+use Rattle.std.specs.Prelude.{Result, Ok, Err}
+use Rattle.judging.specs.Judging.{fitness, usable_by, kinds_fit_by, fitness_by, NumbersFit, line_read, line_stored, line_to, judged_as}
 
 ap₃ : {A B C D : Type 0} (f : A → B → C → D) {x x' : A} {y y' : B} {z z' : C} → x ≡ x' → y ≡ y' → z ≡ z' → f x y z ≡ f x' y' z'
 ap₃ f p q r = λ i. f (p i) (q i) (r i)
@@ -71,66 +72,6 @@ module _ (z : ℤ) (s : SFits w64 z) (n : T (non_neg z)) where
       same (pos m) n = refl
       same (negsuc m) n = absurd n
 
--- ---- what the operands are to a line, by what it asks
-module _ (g : Grammar) (o : OperandsAsked) (lines : List Line) (a b : ℤ) (sa : SFits w64 a) (na : T (non_neg a)) where
-  pub none_asked : o ≡ NoOperand → Fit ≡ fitness_by g o (kind_at lines (positive a)) (kind_at lines (positive b))
-  none_asked e = rw e
-
-  module _ (j : Kind) (p : j ≡ kind_at lines (nat_abs (to_z w64 (of_z w64 a)))) where
-    first_kind : j ≡ kind_at lines (positive a)
-    first_kind = p ∙ ap (kind_at lines) (magnitude a sa na)
-
-    pub ciphertext_asked :
-        (r : Fitness) → o ≡ Ciphertext → r ≡ fitness (is_usable j) (is_ciphertext j) → r ≡ fitness_by g o (kind_at lines (positive a)) (kind_at lines (positive b))
-    ciphertext_asked r e q = rw (e, ← first_kind) q
-
-    pub constant_asked :
-        (r : Fitness) → o ≡ Constant → r ≡ fitness (is_usable j) (is_constant j) → r ≡ fitness_by g o (kind_at lines (positive a)) (kind_at lines (positive b))
-    constant_asked r e q = rw (e, ← first_kind) q
-
-    pub pair_asked :
-        (r : Fitness) → o ≡ Pair → SFits w64 b → (o ≡ Pair → T (non_neg b)) → (k : Kind) → k ≡ kind_at lines (nat_abs (to_z w64 (of_z w64 b))) →
-        r ≡ fitness (is_usable j && is_usable k) (is_pair g j k) → r ≡ fitness_by g o (kind_at lines (positive a)) (kind_at lines (positive b))
-    pair_asked r e sb nb k p' q =
-        let second : k ≡ kind_at lines (positive b) = p' ∙ ap (kind_at lines) (magnitude b sb (nb e)) in
-        rw (e, ← first_kind, ← second) q
-
-module _ (o : OperandsAsked) (z : ℤ) (s : SFits w64 z) (unsigned : o ≡ Pair → T (non_neg z)) (e : o ≡ Pair) where
-  pub pair_unsigned : T (non_neg (to_z w64 (of_z w64 z)))
-  pair_unsigned = natural_unsigned z s (unsigned e)
-
-  pub pair_fits : Fits w64 (nat_abs (to_z w64 (of_z w64 z)))
-  pair_fits = natural_fits z s (unsigned e)
-
-pub ruleset asked_laws = (rules, natural_unsigned, natural_fits, pair_unsigned, pair_fits, none_asked, ciphertext_asked, constant_asked, pair_asked)
-
--- ---- the second number in a record
-module _ (w : Word) (z : ℤ) (s : SFits w64 z) (fits : SecondFits w z) (t : Bool) (q : t ≡ same_word w Rot) where
-  module _ (h : t ≡ true) where
-    short : SFits w16 z
-    short = fits.amount (sym q ∙ h)
-
-    pub amount_fits : SFits w16 (to_z w64 (of_z w64 z))
-    amount_fits = rw (to_z-of_z w64 z s) short
-
-    pub amount_held : (r : ℕ) → amount_from r ≡ to_z w16 (of_z w16 (to_z w64 (of_z w64 z))) → second_held w r ≡ z
-    amount_held r e = rw (← q, h) (e ∙ ap (λ (y : ℤ). to_z w16 (of_z w16 y)) (to_z-of_z w64 z s) ∙ to_z-of_z w16 z short)
-
-  module _ (h : t ≡ false) where
-    natural : Judging.Natural z
-    natural = fits.number (sym q ∙ h)
-
-    pub number_unsigned : T (non_neg (to_z w64 (of_z w64 z)))
-    number_unsigned = natural_unsigned z s natural.unsigned
-
-    pub number_fits : Fits w16 (nat_abs (to_z w64 (of_z w64 z)))
-    number_fits = rw (to_z-of_z w64 z s) natural.fits
-
-    pub number_held : second_held w (nat_abs (to_z w64 (of_z w64 z))) ≡ z
-    number_held = rw (← q, h) (whole z s natural.unsigned)
-
-pub ruleset number_laws = (rules, amount_fits, amount_held, number_unsigned, number_fits, number_held)
-
 -- ---- all numbers in a record; the machine holds each as it is
 abbrev machine : ℤ → ℤ
 machine z = to_z w64 (of_z w64 z)
@@ -144,11 +85,11 @@ module _ (w : Word) (a b c : ℤ) (sa : SFits w64 a) (sb : SFits w64 b) (sc : SF
     pub constant_fits : Fits w32 (nat_abs (machine a))
     constant_fits = rw (to_z-of_z w64 a sa) (fit.one.constant (sym q ∙ h))
 
-    pub constant_line : (low high : ℕ) → low ≡ nat_abs (machine a) % 65536 → high ≡ nat_abs (machine a) / 65536 → (end : ℕ)
-        → line_read w (Good low high 0 end) ≡ Rows.read (line_of w (a ∷ b ∷ c ∷ []), end)
-    constant_line low high l k end =
-        rw (same_word_lem w Const (subst T (sym h ∙ q) tt), l, k)
-        (ap (λ (x : Line). Rows.read (x, end)) (halves_line (nat_abs (machine a)) ∙ ap Lines.Const (magnitude a sa fit.one.unsigned)))
+    pub constant_line : (r : Record) → Records.line_of r ≡ Lines.Const (nat_abs (machine a)) → (end : ℕ) →
+        line_stored (record { held = r; end = end }) ≡ (line_of w (a ∷ b ∷ c ∷ []), end)
+    constant_line r is end =
+        rw (same_word_lem w Const (subst T (sym h ∙ q) tt))
+        (ap (λ (x : Line). (x, end)) (is ∙ ap Lines.Const (magnitude a sa fit.one.unsigned)))
 
   module _ (h : t ≡ false) where
     pub first_fits : Fits w16 (nat_abs (machine a))
@@ -160,13 +101,14 @@ module _ (w : Word) (a b c : ℤ) (sa : SFits w64 a) (sb : SFits w64 b) (sc : SF
     pub third_fits : Fits w16 (nat_abs (machine c))
     third_fits = rw (to_z-of_z w64 c sc) fit.three.fits
 
-    pub stored_line : (m : ℕ) → second_held w m ≡ machine b → (end : ℕ)
-        → line_read w (Good (nat_abs (machine a)) m (nat_abs (machine c)) end) ≡ Rows.read (line_of w (a ∷ b ∷ c ∷ []), end)
-    stored_line m e end =
-        rw (← q, h)
-        (ap₃ (λ (x y z : ℤ). Rows.read (line_of w (x ∷ y ∷ z ∷ []), end)) (whole a sa fit.one.unsigned) (e ∙ to_z-of_z w64 b sb) (whole c sc fit.three.unsigned))
+    pub stored_lem : (r : Record) (m : ℕ) → second_held w m ≡ machine b → Records.line_of r ≡ line_with w (nat_abs (machine a)) m (nat_abs (machine c)) →
+        (end : ℕ) → line_stored (record { held = r; end = end }) ≡ (line_of w (a ∷ b ∷ c ∷ []), end)
+    stored_lem r m e is end =
+        rw is
+        (rw (← q, h)
+        (ap₃ (λ (x y z : ℤ). (line_of w (x ∷ y ∷ z ∷ []), end)) (whole a sa fit.one.unsigned) (e ∙ to_z-of_z w64 b sb) (whole c sc fit.three.unsigned)))
 
-pub ruleset stored_laws = (rules, not-true, not-false, first_unsigned, constant_fits, constant_line, first_fits, third_unsigned, third_fits, stored_line)
+pub ruleset stored_laws = (rules, not-true, not-false, first_unsigned, constant_fits, constant_line, first_fits, third_unsigned, third_fits, stored_lem)
 
 -- ---- a line's operands are its first numbers, by what its word asks
 abbrev operands_by : OperandsAsked → ℕ → ℕ → List ℕ
@@ -204,26 +146,6 @@ pub line_of_three : (w : Word) (ns : List ℤ) {a b c : ℤ} → a ≡ get_or ns
 line_of_three w ns p q r = ap₃ (λ (x y z : ℤ). line_of w (x ∷ y ∷ z ∷ [])) p q r ∙ sym (first_three w ns)
 
 -- ---- the verdict, test by test
--- what was found tells which tests are passed
-record Both (u k fits : Bool) : Type 0 where
-  usable : u ≡ true
-  kinds : k ≡ fits
-
-when_unusable : (u k : Bool) → fitness u k ≡ Unusable → u ≡ false
-when_unusable false k e = refl
-when_unusable true false e = absurd (let z : ◌≡◌ {A = ℕ} 0 1 = cc in omega arith)
-when_unusable true true e = absurd (let z : ◌≡◌ {A = ℕ} 0 1 = cc in omega arith)
-
-when_wrong : (u k : Bool) → fitness u k ≡ WrongKind → Both u k false
-when_wrong false k e = absurd (let z : ◌≡◌ {A = ℕ} 0 1 = cc in omega arith)
-when_wrong true false e = record { usable = refl; kinds = refl }
-when_wrong true true e = absurd (let z : ◌≡◌ {A = ℕ} 0 1 = cc in omega arith)
-
-when_fit : (u k : Bool) → fitness u k ≡ Fit → Both u k true
-when_fit false k e = absurd (let z : ◌≡◌ {A = ℕ} 0 1 = cc in omega arith)
-when_fit true false e = absurd (let z : ◌≡◌ {A = ℕ} 0 1 = cc in omega arith)
-when_fit true true e = record { usable = refl; kinds = refl }
-
 module _ (g : Grammar) (w : Word) (a b c : ℤ) (sa : SFits w64 a) (sb : SFits w64 b) (lines : List Line) where
   every_usable_lem : every_usable lines (operands (line_of w (a ∷ b ∷ c ∷ []))) ≡ usable_by (row_of w).asks (kind_at lines (positive a)) (kind_at lines (positive b))
   every_usable_lem = ap (every_usable lines) (operands_are a b c w) ∙ usable_operands lines (row_of w).asks (positive a) (positive b)
@@ -234,7 +156,7 @@ module _ (g : Grammar) (w : Word) (a b c : ℤ) (sa : SFits w64 a) (sb : SFits w
       (ap (λ (v : Word). (entry v).asks) (line_word w (a ∷ b ∷ c ∷ []))) (operands_are a b c w)
       ∙ fit_asked g lines (entry w).asks (positive a) (positive b)
 
-  module _ (asked : OperandsAsked) (i : asked ≡ (row_of w).asks) (f : Fitness)
+  module _ (asked : OperandsAsked) (i : asked ≡ (row_of w).asks) (f : Result (Unit {0}) Fault)
       (q : f ≡ fitness_by g asked (kind_at lines (positive (machine a))) (kind_at lines (positive (machine b)))) where
     abbrev usable : Bool
     usable = every_usable lines (operands (line_of w (a ∷ b ∷ c ∷ [])))
@@ -247,18 +169,25 @@ module _ (g : Grammar) (w : Word) (a b c : ℤ) (sa : SFits w64 a) (sb : SFits w
         ap₂ fitness every_usable_lem kinds_fit_lem
         ∙ sym (q ∙ ap₃ (λ (v : OperandsAsked) (x y : ℤ). fitness_by g v (kind_at lines (positive x)) (kind_at lines (positive y))) i (to_z-of_z w64 a sa) (to_z-of_z w64 b sb))
 
-    pub not_usable : (n end : ℕ) → f ≡ Unusable → refused 4 (n + 2) ≡ line_to (place_of n) end (judged_as g lines (line_of w (a ∷ b ∷ c ∷ [])))
+    -- each refusal is the one that the tests find
+    pub not_fit : (n end : ℕ) (fault : Fault) → f ≡ Err fault → refused (number_of fault) (n + 2) ≡ line_to (place_of n) end (judged_as g lines (line_of w (a ∷ b ∷ c ∷ [])))
     unfolding judged_as
-    not_usable n end e = rw (when_unusable usable kinds (found ∙ e))
+    not_fit n end fault e = go usable kinds (found ∙ e)
+      where
+        go : (u k : Bool) → fitness u k ≡ Err fault → refused (number_of fault) (n + 2) ≡ line_to (place_of n) end (judged ((4, u) ∷ (5, k) ∷ []) (line_of w (a ∷ b ∷ c ∷ [])))
+        go false k e = let is : NoUsableLine ≡ fault = cc in rw (← is)
+        go true false e = let is : WrongKind ≡ fault = cc in rw (← is)
+        go true true e = absurd (let z : ◌≡◌ {A = ℕ} 0 1 = cc in omega arith)
 
-    pub not_fit : (n end : ℕ) → f ≡ WrongKind → refused 5 (n + 2) ≡ line_to (place_of n) end (judged_as g lines (line_of w (a ∷ b ∷ c ∷ [])))
+    pub fits : (n end : ℕ) (r : StoredLine) → f ≡ Ok tt → line_stored r ≡ (line_of w (a ∷ b ∷ c ∷ []), end)
+        → line_read (place_of n) (Ok r) ≡ line_to (place_of n) end (judged_as g lines (line_of w (a ∷ b ∷ c ∷ [])))
     unfolding judged_as
-    not_fit n end e = let wrong = when_wrong usable kinds (found ∙ e) in rw (wrong.usable, wrong.kinds)
-
-    pub fits : (n end : ℕ) (r : LineRead) → f ≡ Fit → line_read w r ≡ Rows.read (line_of w (a ∷ b ∷ c ∷ []), end)
-        → line_read w r ≡ line_to (place_of n) end (judged_as g lines (line_of w (a ∷ b ∷ c ∷ [])))
-    unfolding judged_as
-    fits n end r e is = let passed = when_fit usable kinds (found ∙ e) in rw (passed.usable, passed.kinds) is
+    fits n end r e is = go usable kinds (found ∙ e)
+      where
+        go : (u k : Bool) → fitness u k ≡ Ok tt → line_read (place_of n) (Ok r) ≡ line_to (place_of n) end (judged ((4, u) ∷ (5, k) ∷ []) (line_of w (a ∷ b ∷ c ∷ [])))
+        go false k e = absurd (let z : ◌≡◌ {A = ℕ} 0 1 = cc in omega arith)
+        go true false e = absurd (let z : ◌≡◌ {A = ℕ} 0 1 = cc in omega arith)
+        go true true e = ap (λ (x : Line × ℕ). Rows.read x) is
 
 pub second_asked : (w : Word) (a b c : ℤ) → NumbersFit w a b c → SFits w64 b → (ops : OperandsAsked) → ops ≡ (row_of w).asks → ops ≡ Pair → T (non_neg (machine b))
 second_asked w a b c fit s ops i e = natural_unsigned b s (fit.two.number (go (same_word w Rot) refl)).unsigned
@@ -273,4 +202,4 @@ second_asked w a b c fit s ops i e = natural_unsigned b s (fit.two.number (go (s
 pub first_asked : (w : Word) (a b c : ℤ) → NumbersFit w a b c → SFits w64 a → T (non_neg (machine a))
 first_asked w a b c fit s = natural_unsigned a s fit.one.unsigned
 
-pub ruleset verdicts = (rules, not-true, not-false, first_asked, second_asked, not_usable, not_fit, fits)
+pub ruleset verdicts = (rules, not-true, not-false, first_asked, second_asked, not_fit, fits)

@@ -1,2 +1,1 @@
-mod KindLaws
 pub mod JudgeLaws

@@ -1,6 +1,6 @@
 -- What the code uses: a line's operands and kinds, by its word and the kinds of what its first two numbers name, which numbers fit a
 -- record, and what an answer says of a line.
-use Rattle.std.specs.Prelude.{ℕ, Bool, true, false, cond, ◌&&◌, List, [], ◌∷◌, ◌≡◌, T, ℤ, nat_abs}
+use Rattle.std.specs.Prelude.{Result, Ok, Err, ℕ, Bool, true, false, cond, ◌&&◌, List, [], ◌∷◌, ◌≡◌, T, ℤ, nat_abs}
 use Rattle.std.specs.Int.Signed.{non_neg}
 use Rattle.std.specs.Int.{w16, w32}
 use Rattle.std.proofs.Common.{Fits, SFits}
@@ -9,22 +9,22 @@ use Rattle.model.specs.declared.Grammar.{Grammar}
 use Rattle.model.specs.declared.Line.{Line}
 use Rattle.model.specs.declared.Kind.{Kind}
 use Rattle.model.specs.declared.Word.{Word}
+use Rattle.model.specs.declared.Fault.{Fault}
+use Rattle.model.specs.declared.Fault.TheVariants.{NoUsableLine, WrongKind}
+use Rattle.model.specs.Refusals.{number_of}
 use Rattle.model.specs.declared.Word.TheVariants.{Const, Rot}
 use Rattle.model.specs.Words.{no_operand, a_ciphertext, a_constant, a_pair}
 use Rattle.model.specs.Numbering.{same_word}
 use Rattle.model.specs.Files.{operands, is_usable, every_usable, asks_for, kinds_fit}
-use Rattle.tables.specs.Records.{line_with}
+use Rattle.tables.specs.Records as Records
 use Rattle.words.specs.declared.OperandsAsked.{OperandsAsked}
 use Rattle.words.specs.declared.OperandsAsked.TheVariants.{NoOperand, Ciphertext, Constant, Pair}
-use Rattle.judging.specs.declared.LineRead.{LineRead}
-use Rattle.judging.specs.declared.LineRead.TheVariants as Lines
-use Rattle.judging.specs.declared.kinds.Fitness.{Fitness}
-use Rattle.judging.specs.declared.kinds.Fitness.TheVariants.{Fit, Unusable, WrongKind}
+use Rattle.judging.specs.declared.StoredLine.{StoredLine}
 
 -- ---- what the operands are to a line
 -- by whether the operands are usable, and then by whether their kinds fit
-abbrev pub fitness : Bool → Bool → Fitness
-fitness usable fit = cond usable (cond fit Fit WrongKind) Unusable
+abbrev pub fitness : Bool → Bool → Result (Unit {0}) Fault
+fitness usable fit = cond usable (cond fit (Ok tt) (Err WrongKind)) (Err NoUsableLine)
 
 abbrev pub usable_by : OperandsAsked → Kind → Kind → Bool
 usable_by NoOperand j k = true
@@ -39,7 +39,7 @@ kinds_fit_by g Constant j k = asks_for g a_constant j k
 kinds_fit_by g Pair j k = asks_for g a_pair j k
 
 -- what operands of these kinds are to a line that asks so
-abbrev pub fitness_by : Grammar → OperandsAsked → Kind → Kind → Fitness
+abbrev pub fitness_by : Grammar → OperandsAsked → Kind → Kind → Result (Unit {0}) Fault
 fitness_by g asked j k = fitness (usable_by asked j k) (kinds_fit_by g asked j k)
 
 -- ---- a line's numbers
@@ -63,10 +63,13 @@ pub record NumbersFit (w : Word) (first second third : ℤ) : Type 0 where
   pub three : Natural third
 
 -- ---- what is found of a line
--- what an answer says, of a line with this word: the line that its record holds and the place past it, or a refusal
-abbrev pub line_read : Word → LineRead → Reading (Line × ℕ)
-line_read w (Lines.Good a b c end) = read (line_with w a b c, end)
-line_read w (Lines.Bad n place) = refused n place
+-- what an answer says: the line that its record holds and the place past it, or a refusal
+abbrev pub line_stored : StoredLine → Line × ℕ
+line_stored s = (Records.line_of s.held, s.end)
+
+abbrev pub line_read : ℕ → Result StoredLine Fault → Reading (Line × ℕ)
+line_read place (Ok s) = read (line_stored s)
+line_read place (Err f) = refused (number_of f) place
 
 abbrev pub line_to : ℕ → ℕ → Judgement Line → Reading (Line × ℕ)
 line_to place end j = at place j (λ x. read (x, end))

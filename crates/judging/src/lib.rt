@@ -8,20 +8,20 @@ ghost use Rattle.std.specs.Int.Signed.{non_neg};
 ghost use Rattle.ints.specs.Parts.{positive};
 ghost use Rattle.rows.specs.Rows.{place_of, read};
 ghost use Rattle.model.specs.Files.{line_of, kind_at};
+ghost use Rattle.model.specs.Refusals.{told};
 ghost use Rattle.tables.specs.Records.{second_held, lines_held};
 ghost use Rattle.words.specs.Words.{row_of};
-ghost use Rattle.judging.specs.Judging.{line_read, line_to, judged_as, fitness_by, SecondFits, NumbersFit};
+ghost use Rattle.judging.specs.Judging.{line_read, line_stored, line_to, judged_as, fitness_by, SecondFits, NumbersFit};
 
-use kinds::Fitness;
-use model::{Grammar, Word};
+use model::{Fault, Grammar, Line, Word};
 use tables::Record;
 use words::OperandsAsked;
 
-// A line that was read: what its record holds after the word's number, and the place past its line feed; or a refusal.
+// A line that was read: the record that holds it, and the place past its line feed.
 #[derive(Clone, Copy)]
-pub enum LineRead {
-    Good { a: u16, b: u16, c: u16, end: usize },
-    Bad { number: u32, place: u32 },
+pub struct StoredLine {
+    pub held: Record,
+    pub end: usize,
 }
 
 // A line that is of the form and whose numbers are in their ranges: its word, what that asks of its operands, the numbers of its fields, 0 past them, and
@@ -36,28 +36,7 @@ pub struct FormedLine {
     pub end: usize,
 }
 
-// Such a line of its parts.
-pub fn formed(
-    word: Word,
-    asks: OperandsAsked,
-    first: i64,
-    second: i64,
-    third: i64,
-    end: usize,
-) -> FormedLine
-    ensures { result ≡ record { word = word; asks = asks; first = first; second = second; third = third; end = end } }
-{
-    FormedLine {
-        word,
-        asks,
-        first,
-        second,
-        third,
-        end,
-    }
-}
-
-// What the line's operands are to it, by what its word asks; only an operand that is asked for is looked up.
+// Whether the line's operands are what its word asks for; only an operand that is asked for is looked up.
 fn operands_fit(
     grammar: Grammar,
     asked: OperandsAsked,
@@ -65,14 +44,14 @@ fn operands_fit(
     count: usize,
     first: i64,
     second: i64,
-) -> Fitness
+) -> Result<(), Fault>
     requires count_in_bounds { count ≤ length records.now }
     requires natural { T (non_neg first) }
     requires unsigned { asked ≡ OperandsAsked.Pair → T (non_neg second) }
     ensures { result ≡ fitness_by grammar asked (kind_at (lines_held records.now count) (positive first)) (kind_at (lines_held records.now count) (positive second)) }
 {
     match asked {
-        OperandsAsked::NoOperand => Fitness::Fit,
+        OperandsAsked::NoOperand => Ok(()),
         OperandsAsked::Ciphertext => kinds::ciphertext(tables::kind_at(
             records,
             count,
@@ -99,41 +78,43 @@ fn second_number(word: Word, second: i64) -> u16
 }
 
 // A line whose numbers fit its record.
-fn stored(line: FormedLine) -> LineRead
+#[tactic(auto, using(crate::proofs::JudgeLaws::stored_laws))]
+fn stored(line: FormedLine) -> StoredLine
     requires { NumbersFit line.word line.first line.second line.third }
-    ensures { line_read line.word result ≡ read (line_of line.word (line.first ∷ line.second ∷ line.third ∷ []), line.end) }
+    ensures { line_stored result ≡ (line_of line.word (line.first ∷ line.second ∷ line.third ∷ []), line.end) }
 {
     let word = line.word;
     if words::takes_constant(word) {
-        let number = line.first as u32;
-        return LineRead::Good {
-            a: tables::low_half(number),
-            b: tables::high_half(number),
-            c: 0,
+        return StoredLine {
+            held: tables::record_of(Line::Const(line.first as u32)),
             end: line.end,
         };
     }
-    LineRead::Good {
-        a: line.first as u16,
-        b: second_number(word, line.second),
-        c: line.third as u16,
+    StoredLine {
+        held: tables::record_with(
+            word,
+            line.first as u16,
+            second_number(word, line.second),
+            line.third as u16,
+        ),
         end: line.end,
     }
 }
 
 // A line after those of the first `count` records.
-pub fn judge(grammar: Grammar, records: &[Record], count: usize, line: FormedLine) -> LineRead
+#[tactic(auto, using(crate::proofs::JudgeLaws::verdicts))]
+pub fn judge(
+    grammar: Grammar,
+    records: &[Record],
+    count: usize,
+    line: FormedLine,
+) -> Result<StoredLine, Fault>
     requires count_in_bounds { count ≤ length records.now }
     requires count_bound { count ≤ 1792 }
     requires asks_value { line.asks ≡ (row_of line.word).asks }
     requires numbers_fit { NumbersFit line.word line.first line.second line.third }
-    ensures { line_read line.word result ≡ line_to (place_of count) line.end (judged_as grammar (lines_held records.now count) (line_of line.word (line.first ∷ line.second ∷ line.third ∷ []))) }
+    ensures { line_read (place_of count) result ≡ line_to (place_of count) line.end (judged_as grammar (lines_held records.now count) (line_of line.word (line.first ∷ line.second ∷ line.third ∷ []))) }
 {
-    let place = (count as u32) + 2;
-    let asks = line.asks;
-    match operands_fit(grammar, asks, records, count, line.first, line.second) {
-        Fitness::Unusable => LineRead::Bad { number: 4, place },
-        Fitness::WrongKind => LineRead::Bad { number: 5, place },
-        Fitness::Fit => stored(line),
-    }
+    operands_fit(grammar, line.asks, records, count, line.first, line.second)?;
+    Ok(stored(line))
 }

@@ -1,56 +1,67 @@
 // The least top level at which a circuit fits.
 #![tactic(auto)]
 
-ghost use Rattle.std.specs.Prelude.{◌≡◌};
-ghost use Rattle.model.specs.declared.Grammar.TheVariants.{Circuit};
+ghost use Rattle.std.specs.Prelude.{◌≡◌, ◌≤◌, ◌<◌, IfErr};
 ghost use Rattle.model.specs.Scales.{with_top};
-ghost use Rattle.text.specs.Tables.{TableFormed, file_of};
+ghost use Rattle.text.specs.Tables.{file_of};
 ghost use Rattle.model.specs.Answers.{least_level};
-ghost use Rattle.tables.specs.Records.{held};
+ghost use Rattle.model.specs.Refusals.{level_answer};
+ghost use Rattle.tables.specs.Files.{circuit_lines, circuit_held};
+ghost use Rattle.levels.specs.Tried.{tried};
 
-use model::{Answer, Header};
-use reserves::LineReserve;
-use tables::Record;
+use model::{Header, Refusal};
+use tables::files::CircuitTable;
 
 // The header with another top level.
 fn with_top(header: Header, level: u32) -> Header
     ensures { result ≡ with_top header level }
 {
-    let headroom = header.headroom;
     Header {
-        factor: header.factor,
-        waterline: header.waterline,
         top: level,
-        headroom: headroom,
+        ..header
     }
 }
 
-// The first level from 1 to 60 at which every line has a best reserve, or the refusal at 60.
-pub fn least_level(given: Header, circuit: &[Record], count: usize) -> Answer
-    requires { TableFormed Circuit (held given circuit.now count) }
-    ensures { result ≡ least_level (file_of (held given circuit.now count)) }
+// A top level, if every line has a best reserve at it, or the refusal of the first line that has none.
+fn tried(circuit: &CircuitTable, level: u32) -> Result<u32, Refusal>
+    requires low { 1 ≤ level }
+    requires high { level ≤ 60 }
+    ensures answer { level_answer result ≡ tried circuit.now.header (circuit_lines circuit.now) level }
+    ensures placed { IfErr result (λ r. 0 < r.place) }
 {
+    let header = with_top(circuit.header, level);
     let mut reserves = [0i32; 256];
+    for i in 0..circuit.count {
+        match reserves::reserve_of(header, circuit.records, &reserves, i) {
+            Ok(reserve) => reserves[i] = reserve,
+            // `map_err` with `?` in its place: tried, and the exit did not prove.
+            Err(fault) => {
+                return Err(Refusal {
+                    fault,
+                    place: (i as u32) + 2,
+                });
+            }
+        }
+    }
+    Ok(level)
+}
+
+// The first level from 1 to 60 at which every line has a best reserve, or the refusal at 60. Document 01 names this form: a labelled loop, left by break.
+pub fn least_level(circuit: &CircuitTable) -> Result<u32, Refusal>
+    ensures answer { level_answer result ≡ least_level (file_of (circuit_held circuit.now)) }
+    ensures placed { IfErr result (λ r. 0 < r.place) }
+{
     let mut level: u32 = 1;
     let least = 'levels: loop {
-        let header = with_top(given, level);
-        let mut i: usize = 0;
-        while i < count {
-            let LineReserve::Leaves(reserve) = reserves::reserve_of(header, circuit, &reserves, i)
-            else {
+        match tried(circuit, level) {
+            Ok(fitting) => break 'levels fitting,
+            Err(refusal) => {
                 if level == 60 {
-                    return Answer::Refused {
-                        number: 6,
-                        place: (i as u32) + 2,
-                    };
+                    return Err(refusal);
                 }
                 level += 1;
-                continue 'levels;
-            };
-            reserves[i] = reserve;
-            i += 1;
+            }
         }
-        break 'levels level;
     };
-    Answer::Level(least)
+    Ok(least)
 }

@@ -21,7 +21,8 @@ use Rattle.choices.proofs.Readings.{small_fits}
 use Rattle.conversions.specs.declared.Operand.{Operand}
 use Rattle.conversions.specs.Operands.{best_of}
 use Rattle.conversions.proofs.PutLaws.{reading, read_same}
-use Rattle.linechoices.specs.declared.LineChoice.TheVariants.{Done, TooFew}
+use Rattle.std.specs.Prelude.{Ok, Err}
+use Rattle.model.specs.declared.Fault.TheVariants.{TooFewLevels}
 use Rattle.linechoices.specs.Steps.{line_choice}
 
 -- ---- a reserve below the headroom
@@ -32,10 +33,10 @@ module _ (h : Header) (p : Choice) (f : SFits w32 p.reserve) (z : ℤ) (least : 
   below : lt_z (reading p.reserve) (reading z) ≡ lt_z p.reserve (pos (headroom h))
   below = ap₂ lt_z (read_same p.reserve f) (read_same z least_fits ∙ least.is)
 
-  pub too_few : lt_z (reading p.reserve) (reading z) ≡ true → TooFew ≡ line_choice (unless_too_few h p)
+  pub too_few : lt_z (reading p.reserve) (reading z) ≡ true → Err TooFewLevels ≡ line_choice (unless_too_few h p)
   too_few t = rw (sym below ∙ t)
 
-  pub enough : lt_z (reading p.reserve) (reading z) ≡ false → Done p ≡ line_choice (unless_too_few h p)
+  pub enough : lt_z (reading p.reserve) (reading z) ≡ false → Ok p ≡ line_choice (unless_too_few h p)
   enough t = rw (sym below ∙ t)
 
 pub ruleset headroom_laws = (rules, too_few, enough)

@@ -8,7 +8,6 @@ use lib.IntN.{ℤ}
 use Rattle.model.specs.declared.Header.{Header}
 use Rattle.model.specs.declared.Line.{Line}
 use Rattle.model.specs.declared.Line.TheVariants.{In, Const, Neg, Rot, Add, Mul, Out, Enc, Rs, Ms, Us, Free}
-use Rattle.model.specs.declared.Choice.{Choice}
 use Rattle.model.specs.declared.Best.{Best}
 use Rattle.model.specs.declared.Best.TheVariants as Bests
 use Rattle.model.specs.Machine.{Step, stops}
@@ -18,8 +17,10 @@ use Rattle.choices.specs.Ranges.{HeaderRanges}
 use Rattle.choices.proofs.ChoiceLaws.{ranges}
 use Rattle.conversions.specs.declared.Operand.{Operand}
 use Rattle.conversions.specs.Operands.{best_of}
-use Rattle.linechoices.specs.declared.LineChoice.{LineChoice}
-use Rattle.linechoices.specs.declared.LineChoice.TheVariants.{Done, TooFew}
+use Rattle.std.specs.Prelude.{Result, Ok, Err}
+use Rattle.model.specs.declared.Choice.{Choice}
+use Rattle.model.specs.declared.Fault.{Fault}
+use Rattle.model.specs.declared.Fault.TheVariants.{TooFewLevels}
 use Rattle.linechoices.specs.Steps.{step_on, line_choice, Known}
 
 -- an operand that is a ciphertext, or not
@@ -90,7 +91,7 @@ module _ (h : Header) (x : Line) (a b : Operand) (K : Known h x a b) where
   mul_some i j e = some_ciphertext (best_machine h).mul refl (mul_step h x a b i j e)
 
   -- ---- how it is done
-  module _ (p : Choice) (r : LineChoice) (is : r ≡ line_choice (unless_too_few h p)) where
+  module _ (p : Choice) (r : Result Choice Fault) (is : r ≡ line_choice (unless_too_few h p)) where
     tested : (s : Step Best ℕ) → step_on h x a b ≡ s → unless_too_few h p ≡ s → r ≡ line_choice (step_on h x a b)
     tested s e f = is ∙ ap line_choice (f ∙ sym e)
 
@@ -111,34 +112,34 @@ module _ (h : Header) (x : Line) (a b : Operand) (K : Known h x a b) where
     mul_done i j e f = tested ((best_machine h).mul (best_of a) (best_of b)) (mul_step h x a b i j e) f
 
   module _ (p : Choice) where
-    pub const_done : (k : ℕ) → x ≡ Const k → p ≡ choice_of Bests.Constant → Done p ≡ line_choice (step_on h x a b)
+    pub const_done : (k : ℕ) → x ≡ Const k → p ≡ choice_of Bests.Constant → Ok p ≡ line_choice (step_on h x a b)
     unfolding step_on
     const_done k e f = rw (e, f)
 
-    pub out_done : (i : ℕ) → x ≡ Out i → p ≡ choice_of (best_of a) → Done p ≡ line_choice (step_on h x a b)
-    out_done i e f = ap Done f ∙ own a.ciphertext (out_ciphertext i e) ∙ sym (ap line_choice (out_step h x a b i e))
+    pub out_done : (i : ℕ) → x ≡ Out i → p ≡ choice_of (best_of a) → Ok p ≡ line_choice (step_on h x a b)
+    out_done i e f = ap (λ (q : Choice). Ok q) f ∙ own a.ciphertext (out_ciphertext i e) ∙ sym (ap line_choice (out_step h x a b i e))
       where
-        own : (t : Bool) → t ≡ true → Done (choice_of (known a t)) ≡ line_choice ((best_machine h).out (known a t))
+        own : (t : Bool) → t ≡ true → Ok (choice_of (known a t)) ≡ line_choice ((best_machine h).out (known a t))
         own t c = rw c
 
   -- no circuit has these
-  pub enc_done : (i s l : ℕ) → x ≡ Enc i s l → TooFew ≡ line_choice (step_on h x a b)
+  pub enc_done : (i s l : ℕ) → x ≡ Enc i s l → Err TooFewLevels ≡ line_choice (step_on h x a b)
   unfolding step_on
   enc_done i s l e = rw e
 
-  pub rs_done : (i n : ℕ) → x ≡ Rs i n → TooFew ≡ line_choice (step_on h x a b)
+  pub rs_done : (i n : ℕ) → x ≡ Rs i n → Err TooFewLevels ≡ line_choice (step_on h x a b)
   unfolding step_on
   rs_done i n e = rw e
 
-  pub ms_done : (i n : ℕ) → x ≡ Ms i n → TooFew ≡ line_choice (step_on h x a b)
+  pub ms_done : (i n : ℕ) → x ≡ Ms i n → Err TooFewLevels ≡ line_choice (step_on h x a b)
   unfolding step_on
   ms_done i n e = rw e
 
-  pub us_done : (i n : ℕ) → x ≡ Us i n → TooFew ≡ line_choice (step_on h x a b)
+  pub us_done : (i n : ℕ) → x ≡ Us i n → Err TooFewLevels ≡ line_choice (step_on h x a b)
   unfolding step_on
   us_done i n e = rw e
 
-  pub free_done : x ≡ Free → TooFew ≡ line_choice (step_on h x a b)
+  pub free_done : x ≡ Free → Err TooFewLevels ≡ line_choice (step_on h x a b)
   unfolding step_on
   free_done e = rw e
 

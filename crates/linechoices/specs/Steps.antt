@@ -10,16 +10,18 @@ use Rattle.operands.specs.Operands.{with_operands}
 use Rattle.choices.specs.Ranges.{Small}
 use Rattle.conversions.specs.declared.Operand.{Operand}
 use Rattle.conversions.specs.Operands.{best_of}
-use Rattle.linechoices.specs.declared.LineChoice.{LineChoice}
-use Rattle.linechoices.specs.declared.LineChoice.TheVariants.{Done, TooFew}
+use Rattle.std.specs.Prelude.{Result, Ok, Err}
+use Rattle.model.specs.declared.Choice.{Choice}
+use Rattle.model.specs.declared.Fault.{Fault}
+use Rattle.model.specs.declared.Fault.TheVariants.{TooFewLevels}
 
 -- the machine's step for line x, in a circuit whose values 0 and 1 are its operands
 unfoldable pub step_on : Header → Line → Operand → Operand → Step Best ℕ
 step_on h x a b = step (best_machine h) 0 (best_of a ∷ best_of b ∷ []) (with_operands x 0 1)
 
-abbrev pub line_choice : Step Best ℕ → LineChoice
-line_choice (goes v) = Done (choice_of v)
-line_choice (stops n) = TooFew
+abbrev pub line_choice : Step Best ℕ → Result Choice Fault
+line_choice (goes v) = Ok (choice_of v)
+line_choice (stops n) = Err TooFewLevels
 
 -- The header is in its ranges, the operands have reserves, and a line that stops the machine has too few levels: no operand is missing or
 -- of the wrong kind.

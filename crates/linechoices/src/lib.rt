@@ -10,26 +10,21 @@ ghost use Rattle.conversions.specs.Operands.{best_of};
 ghost use Rattle.linechoices.specs.Steps.{line_choice, step_on, Known};
 
 use conversions::Operand;
-use model::{Choice, Header, Line};
-
-// A line is done so, or it has too few levels.
-#[derive(Clone, Copy)]
-pub enum LineChoice {
-    Done(Choice),
-    TooFew,
-}
+use model::{Choice, Fault, Header, Line};
 
 // A line whose best reserve is below the headroom has too few levels.
-fn unless_too_few(header: Header, choice: Choice) -> LineChoice
+#[tactic(auto, using(crate::proofs::ChoiceLaws::headroom_laws))]
+fn unless_too_few(header: Header, choice: Choice) -> Result<Choice, Fault>
     requires { T (header_in_range header) }
     ensures { result ≡ line_choice (unless_too_few header choice) }
 {
     if choice.reserve < scales::headroom(header) {
-        return LineChoice::TooFew;
+        return Err(Fault::TooFewLevels);
     }
-    LineChoice::Done(choice)
+    Ok(choice)
 }
 
+#[tactic(auto, using(crate::proofs::ChoiceLaws::choice_laws))]
 fn unary_choice(header: Header, first: Operand) -> Choice
     requires header_ranges { HeaderRanges header }
     requires small { Small first.reserve }
@@ -39,6 +34,7 @@ fn unary_choice(header: Header, first: Operand) -> Choice
     choices::unchanged_choice(header, first.reserve)
 }
 
+#[tactic(auto, using(crate::proofs::ChoiceLaws::choice_laws))]
 fn sum_choice(header: Header, first: Operand, second: Operand) -> Choice
     requires header_ranges { HeaderRanges header }
     requires small { Small first.reserve }
@@ -55,6 +51,7 @@ fn sum_choice(header: Header, first: Operand, second: Operand) -> Choice
     choices::unchanged_choice(header, choices::smaller_of(first.reserve, second.reserve))
 }
 
+#[tactic(auto, using(crate::proofs::ChoiceLaws::choice_laws))]
 fn product_choice(header: Header, first: Operand, second: Operand) -> Choice
     requires header_ranges { HeaderRanges header }
     requires small { Small first.reserve }
@@ -84,6 +81,7 @@ fn constant_choice() -> Choice
 }
 
 // A ciphertext that is named as it is.
+#[tactic(auto, using(crate::proofs::ChoiceLaws::choice_laws))]
 fn own_choice(first: Operand) -> Choice
     requires { first.ciphertext ≡ true }
     ensures { result ≡ choice_of (best_of first) }
@@ -97,23 +95,29 @@ fn own_choice(first: Operand) -> Choice
 }
 
 // Any line of a circuit.
-pub fn choice_of(header: Header, line: Line, first: Operand, second: Operand) -> LineChoice
+#[tactic(auto, using(crate::proofs::WordLaws::word_laws))]
+pub fn choice_of(
+    header: Header,
+    line: Line,
+    first: Operand,
+    second: Operand,
+) -> Result<Choice, Fault>
     requires { Known header line first second }
     ensures { result ≡ line_choice (step_on header line first second) }
 {
     match line {
         Line::In => unless_too_few(header, choices::input_choice(header)),
-        Line::Const(_) => LineChoice::Done(constant_choice()),
+        Line::Const(_) => Ok(constant_choice()),
         Line::Neg(_) => unless_too_few(header, unary_choice(header, first)),
         Line::Rot(_, _) => unless_too_few(header, unary_choice(header, first)),
         Line::Add(_, _) => unless_too_few(header, sum_choice(header, first, second)),
         Line::Mul(_, _) => unless_too_few(header, product_choice(header, first, second)),
-        Line::Out(_) => LineChoice::Done(own_choice(first)),
+        Line::Out(_) => Ok(own_choice(first)),
         // No circuit has these words.
-        Line::Enc { .. } => LineChoice::TooFew,
-        Line::Rs(_, _) => LineChoice::TooFew,
-        Line::Ms(_, _) => LineChoice::TooFew,
-        Line::Us(_, _) => LineChoice::TooFew,
-        Line::Free => LineChoice::TooFew,
+        Line::Enc { .. } => Err(Fault::TooFewLevels),
+        Line::Rs(_, _) => Err(Fault::TooFewLevels),
+        Line::Ms(_, _) => Err(Fault::TooFewLevels),
+        Line::Us(_, _) => Err(Fault::TooFewLevels),
+        Line::Free => Err(Fault::TooFewLevels),
     }
 }

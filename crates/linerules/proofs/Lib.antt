@@ -1,3 +1,1 @@
-mod WordLaws
-mod DownscaleLaws
 pub mod LineLaws

@@ -25,14 +25,16 @@ use Rattle.text.proofs.WordLaws.{said_line}
 use Rattle.listings.specs.declared.Levels.{Levels}
 use Rattle.listings.specs.declared.Levels.TheVariants.{Falling, Rising}
 use Rattle.listings.specs.Listings.{ListedWord, word, ds, word_fields, listed_of, turned_numbers, turned}
-use Rattle.fields.specs.declared.Size.TheVariants.{Within, Above}
+use Rattle.std.specs.Prelude.{Some, None}
 use Rattle.forms.specs.Asked as A
 use Rattle.forms.specs.Asked.{asked_at, read_as, any_outside, all_held}
 use Rattle.forms.proofs.TextLaws.{alike, Small}
 use Rattle.words.specs.Words.{held_word, row_in}
 use Rattle.judging.specs.Judging.{NumbersFit}
 use Rattle.judging.proofs.JudgeLaws.{line_of_three}
-use Rattle.lines.specs.declared.Level.TheVariants as Level
+use Rattle.std.specs.Prelude.{Result, Ok, Err}
+use Rattle.model.specs.declared.Fault.{Fault}
+use Rattle.model.specs.declared.Fault.TheVariants.{NumberOutOfRange}
 use Rattle.lines.specs.Lines.{held_as, tested_as, turns_level, asked_by, level_held}
 use Rattle.lines.proofs.HeldLaws.{asked_of, row_asked, every_listed, all_in_lem, all_held_lem, numbers_fit, held_small}
 
@@ -63,9 +65,9 @@ pub record Asking (levels : Levels) (h : Header) (v : ListedWord) : Type 0 where
   pub names : (ms : List ℤ) → Fields Held fields ms → operands (held_line_of levels h v ms) ≡ operands_among fields ms
   pub outside : (ns : List ℤ) → Fields Held fields ns → any_outside (map (asked_of h.top) fields) ns ≡ true → range_of levels h v ns ≡ false
   pub too_low : (ns : List ℤ) → Fields Held fields ns → any_outside (map (asked_of h.top) fields) ns ≡ false
-      → level_held (turns_level levels (row_in v).fields) h.top (held_at h fields ns 1) (held_at h fields ns 2) ≡ Level.Outside → range_of levels h v ns ≡ false
+      → level_held (turns_level levels (row_in v).fields) h.top (held_at h fields ns 1) (held_at h fields ns 2) ≡ Err NumberOutOfRange → range_of levels h v ns ≡ false
   pub level_held_lem : (ns : List ℤ) → Fields Held fields ns → any_outside (map (asked_of h.top) fields) ns ≡ false
-      → (z : ℤ) → level_held (turns_level levels (row_in v).fields) h.top (held_at h fields ns 1) (held_at h fields ns 2) ≡ Level.Held z → LevelFits levels h v fields ns z
+      → (z : ℤ) → level_held (turns_level levels (row_in v).fields) h.top (held_at h fields ns 1) (held_at h fields ns 2) ≡ Ok z → LevelFits levels h v fields ns z
   pub smalls : (ns : List ℤ) → Fields Held fields ns → any_outside (map (asked_of h.top) fields) ns ≡ false → (j : ℕ) → Small (held_at h fields ns j)
   pub unsigned : turns_level levels (row_in v).fields ≡ true → (ns : List ℤ) → Fields Held fields ns → any_outside (map (asked_of h.top) fields) ns ≡ false
       → T (non_neg (held_at h fields ns 2))
@@ -119,10 +121,10 @@ names_of : (v : ListedWord) (ms : List ℤ) → Fields Held (word_fields v) ms �
 names_of (word w) ms hs = ap (λ (s : Said Word). operands_among (entry s.word).fields s.numbers) (said_line w hs)
 names_of ds ms (field (number a) no_field) = refl
 
-held_is : {y z : ℤ} → Level.Held y ≡ Level.Held z → y ≡ z
+held_is : {y z : ℤ} → ◌≡◌ {A = Result ℤ Fault} (Ok y) (Ok z) → y ≡ z
 held_is e = cc
 
-held_outside : {y : ℤ} {P : Type 0} → Level.Held y ≡ Level.Outside → P
+held_outside : {y : ℤ} {P : Type 0} → ◌≡◌ {A = Result ℤ Fault} (Ok y) (Err NumberOutOfRange) → P
 held_outside e = absurd (let z : ◌≡◌ {A = ℕ} 0 1 = cc in omega arith)
 
 alike_itself : (v : ListedWord) → T (alike (word_fields v) (word_fields v))
@@ -134,7 +136,7 @@ unfolding alike
 read_itself top v = every_listed (λ u. alike (word_fields u) (map read_as (map (asked_of top) (word_fields u)))) tt v
 
 module _ (levels : Levels) (h : Header) (few : h.top ≤ 60) (v : ListedWord) (stays : turns_level levels (row_in v).fields ≡ false) where
-  same_level : (y z : ℤ) → level_held (turns_level levels (row_in v).fields) h.top y z ≡ Level.Held z
+  same_level : (y z : ℤ) → level_held (turns_level levels (row_in v).fields) h.top y z ≡ Ok z
   unfolding level_held
   same_level y z = rw stays
 
@@ -216,7 +218,7 @@ module _ (h : Header) (few : h.top ≤ 60) (a s e : ℕ) where
     name_at : Named (held_at h (turned_fields h.top) ns 0)
     name_at = go (leb a 1791) refl
       where
-        go : (b : Bool) → leb a 1791 ≡ b → Named (A.held_as (cond b (Within (pos a)) Above))
+        go : (b : Bool) → leb a 1791 ≡ b → Named (A.held_as (cond b (Some (pos a)) None))
         go true q = record { value = a; is = refl; most = omega (arith, leb→le a 1791 (subst T (sym q) tt)) }
         go false q = record { value = 1792; is = refl; most = omega arith }
 
@@ -236,7 +238,7 @@ module _ (h : Header) (few : h.top ≤ 60) (a s e : ℕ) where
     low = ltb s 1 || ltb (h.top - e) 1
 
     turns_so : level_held (turns_level Rising 3) h.top (held_at h (turned_fields h.top) ns 1) (held_at h (turned_fields h.top) ns 2)
-        ≡ cond low Level.Outside (Level.Held (pos (h.top - e)))
+        ≡ cond low (Err NumberOutOfRange) (Ok (pos (h.top - e)))
     unfolding level_held turns_level
     turns_so = rw (scale_at, level_at, sub_is h.top e high_level)
 
@@ -246,10 +248,10 @@ module _ (h : Header) (few : h.top ≤ 60) (a s e : ℕ) where
         let some_left = leb→le 1 (h.top - e) (and_first (leb 1 (h.top - e)) (leb (h.top - e) h.top) (and_second (within 1 3600 s) (within 1 h.top (h.top - e)) t)) in
         rw (le-ltb s 1 scale, le-ltb (h.top - e) 1 some_left) tt
 
-    turned_low : cond low Level.Outside (Level.Held (pos (h.top - e))) ≡ Level.Outside → ranges ≡ false
+    turned_low : cond low (Err NumberOutOfRange) (Ok (pos (h.top - e))) ≡ Err NumberOutOfRange → ranges ≡ false
     turned_low v = go low refl v
       where
-        go : (b : Bool) → low ≡ b → cond b Level.Outside (Level.Held (pos (h.top - e))) ≡ Level.Outside → ranges ≡ false
+        go : (b : Bool) → low ≡ b → cond b (Err NumberOutOfRange) (Ok (pos (h.top - e))) ≡ Err NumberOutOfRange → ranges ≡ false
         go true q v = false_by ranges (not low) not_low (ap not q)
         go false q v = held_outside v
 
@@ -258,7 +260,7 @@ module _ (h : Header) (few : h.top ≤ 60) (a s e : ℕ) where
     neither false true q = absurd (let z : ◌≡◌ {A = ℕ} 0 1 = cc in omega arith)
     neither false false q = tt
 
-    turned_fits : (z : ℤ) → cond low Level.Outside (Level.Held (pos (h.top - e))) ≡ Level.Held z → LevelFits Rising h (word Enc) (turned_fields h.top) ns z
+    turned_fits : (z : ℤ) → cond low (Err NumberOutOfRange) (Ok (pos (h.top - e))) ≡ Ok z → LevelFits Rising h (word Enc) (turned_fields h.top) ns z
     turned_fits z v = go low refl v
       where
         fits : low ≡ false → LevelFits Rising h (word Enc) (turned_fields h.top) ns (pos (h.top - e))
@@ -292,7 +294,7 @@ module _ (h : Header) (few : h.top ≤ 60) (a s e : ℕ) where
               small = omega arith;
             }
 
-        go : (b : Bool) → low ≡ b → cond b Level.Outside (Level.Held (pos (h.top - e))) ≡ Level.Held z → LevelFits Rising h (word Enc) (turned_fields h.top) ns z
+        go : (b : Bool) → low ≡ b → cond b (Err NumberOutOfRange) (Ok (pos (h.top - e))) ≡ Ok z → LevelFits Rising h (word Enc) (turned_fields h.top) ns z
         go true q v = absurd (let z : ◌≡◌ {A = ℕ} 0 1 = cc in omega arith)
         go false q v = subst (LevelFits Rising h (word Enc) (turned_fields h.top) ns) (held_is v) (fits q)
 
@@ -320,12 +322,12 @@ asking_turned h few =
     outside ns (field (number a) (field (number s) (field (number e) no_field))) q = turned_outside h few a s e q
 
     too_low : (ns : List ℤ) → Fields Held (turned_fields h.top) ns → any_outside (map (asked_of h.top) (turned_fields h.top)) ns ≡ false
-        → level_held (turns_level Rising 3) h.top (held_at h (turned_fields h.top) ns 1) (held_at h (turned_fields h.top) ns 2) ≡ Level.Outside
+        → level_held (turns_level Rising 3) h.top (held_at h (turned_fields h.top) ns 1) (held_at h (turned_fields h.top) ns 2) ≡ Err NumberOutOfRange
         → range_of Rising h (word Enc) ns ≡ false
     too_low ns (field (number a) (field (number s) (field (number e) no_field))) q v = turned_low h few a s e q (sym (turns_so h few a s e q) ∙ v)
 
     level_held_lem : (ns : List ℤ) → Fields Held (turned_fields h.top) ns → any_outside (map (asked_of h.top) (turned_fields h.top)) ns ≡ false
-        → (z : ℤ) → level_held (turns_level Rising 3) h.top (held_at h (turned_fields h.top) ns 1) (held_at h (turned_fields h.top) ns 2) ≡ Level.Held z
+        → (z : ℤ) → level_held (turns_level Rising 3) h.top (held_at h (turned_fields h.top) ns 1) (held_at h (turned_fields h.top) ns 2) ≡ Ok z
         → LevelFits Rising h (word Enc) (turned_fields h.top) ns z
     level_held_lem ns (field (number a) (field (number s) (field (number e) no_field))) q z v = turned_fits h few a s e q z (sym (turns_so h few a s e q) ∙ v)
 

@@ -13,7 +13,7 @@ use lib.ListN.{length, get_or, get_or-eq_default}
 use mir.Syntax.{w16}
 use mir.Val.{SFits}
 use Rattle.ints.specs.Parts.{positive}
-use Rattle.fields.specs.declared.Size.TheVariants.{Within, Above}
+use Rattle.std.specs.Prelude.{Some, None}
 use Rattle.rows.specs.Fields.{Holds, operand, ranged, up_to_top, amount, within, in_range, all_in_range}
 use Rattle.rows.proofs.FieldLaws.{Natural, number, Held, Fields, no_field, field}
 use Rattle.model.specs.declared.Grammar.{Grammar}
@@ -67,7 +67,7 @@ and_false false = refl
 natural_in : (l h m : ℕ) → within l h m ≡ not (outside_in (A.number (pos l) h) (size_in (A.number (pos l) h) (pos m)))
 natural_in l h m = go (leb m h)
   where
-    go : (b : Bool) → (leb l m && b) ≡ not (below_or_above (pos l) (cond b (Within (pos m)) Above))
+    go : (b : Bool) → (leb l m && b) ≡ not (below_or_above (pos l) (cond b (Some (pos m)) None))
     go true = and_true (leb l m) ∙ not_less l m
     go false = and_false (leb l m)
 
@@ -82,7 +82,7 @@ amount_in_lem most (pos m) = first most ∙ go (leb m most)
     least zero = le-ltb m 0 (omega arith)
     least (suc k) = refl
 
-    go : (b : Bool) → b ≡ not (below_or_above (neg_ℤ (pos most)) (cond b (Within (pos m)) Above))
+    go : (b : Bool) → b ≡ not (below_or_above (neg_ℤ (pos most)) (cond b (Some (pos m)) None))
     go true = sym (ap not (least most))
     go false = refl
 amount_in_lem zero (negsuc m) = rw (lt-leb (suc m) 0 (omega arith))
@@ -129,14 +129,14 @@ record HeldAs (f : Holds) (n m : ℤ) : Type 0 where
   most : nat_abs m ≤ most_of f
 
 -- a number that is not outside its range is held as it is
-inside : (least : ℤ) (largest : ℕ) (n : ℤ) → below_or_above least (cond (leb (nat_abs n) largest) (Within n) Above) ≡ false → leb (nat_abs n) largest ≡ true
+inside : (least : ℤ) (largest : ℕ) (n : ℤ) → below_or_above least (cond (leb (nat_abs n) largest) (Some n) None) ≡ false → leb (nat_abs n) largest ≡ true
 inside least largest n e = go (leb (nat_abs n) largest) e
   where
-    go : (b : Bool) → below_or_above least (cond b (Within n) Above) ≡ false → b ≡ true
+    go : (b : Bool) → below_or_above least (cond b (Some n) None) ≡ false → b ≡ true
     go true e = refl
     go false e = absurd (let z : ◌≡◌ {A = ℕ} 0 1 = cc in omega arith)
 
-kept_as_lem : (largest : ℕ) (n : ℤ) → leb (nat_abs n) largest ≡ true → held_as (cond (leb (nat_abs n) largest) (Within n) Above) ≡ n
+kept_as_lem : (largest : ℕ) (n : ℤ) → leb (nat_abs n) largest ≡ true → held_as (cond (leb (nat_abs n) largest) (Some n) None) ≡ n
 kept_as_lem largest n e = rw e
 
 least_most : (largest : ℕ) (n : ℤ) → leb (nat_abs n) largest ≡ true → nat_abs n ≤ largest
@@ -156,7 +156,7 @@ module _ (top : ℕ) (few : top ≤ 60) where
   held_as_lem : (f : Holds) (n : ℤ) → Held f n → outside_in (asked_of top f) (size_in (asked_of top f) n) ≡ false → HeldAs f n (held_as (size_in (asked_of top f) n))
   held_as_lem operand n (number a) e = go (leb a 1791) refl
     where
-      go : (b : Bool) → leb a 1791 ≡ b → HeldAs operand (pos a) (held_as (cond b (Within (pos a)) Above))
+      go : (b : Bool) → leb a 1791 ≡ b → HeldAs operand (pos a) (held_as (cond b (Some (pos a)) None))
       go true q = record { held = number a; most = omega (arith, leb→le a 1791 (subst T (sym q) tt)) }
       go false q = record { held = number 1792; most = omega arith }
   held_as_lem (ranged low high) n h e =
@@ -191,10 +191,10 @@ module _ (top : ℕ) (few : top ≤ 60) where
     names_none : (a : ℕ) → length lines ≤ a → is_usable (kind_at lines a) ≡ false
     names_none a h = rw (get_or-eq_default lines Free h)
 
-    operand_as : (a : ℕ) → is_usable (kind_at lines (positive (held_as (cond (leb a 1791) (Within (pos a)) Above)))) ≡ is_usable (kind_at lines a)
+    operand_as : (a : ℕ) → is_usable (kind_at lines (positive (held_as (cond (leb a 1791) (Some (pos a)) None)))) ≡ is_usable (kind_at lines a)
     operand_as a = go (leb a 1791) refl
       where
-        go : (b : Bool) → leb a 1791 ≡ b → is_usable (kind_at lines (positive (held_as (cond b (Within (pos a)) Above)))) ≡ is_usable (kind_at lines a)
+        go : (b : Bool) → leb a 1791 ≡ b → is_usable (kind_at lines (positive (held_as (cond b (Some (pos a)) None)))) ≡ is_usable (kind_at lines a)
         go true q = refl
         go false q = names_none 1792 short ∙ sym (names_none a (omega (arith, nleb→lt a 1791 (subst (λ (u : Bool). T (not u)) (sym q) tt))))
 

@@ -2,7 +2,7 @@
 use Prim.Native.Nat.{ℕ, ◌+◌, ◌≤◌}
 use native.Mathlib.Omega.{arith}
 use mathlib.Core.Path.{◌≡◌, refl, sym, ap, ap₂, ◌∙◌, subst}
-use mathlib.Core.Bool.{Bool, true, false, cond}
+use mathlib.Core.Bool.{Bool, true, false}
 use mathlib.Core.List.{List, [], ◌∷◌, map}
 use mathlib.Core.Option.{Option, none, some}
 use borrow.Author.Rules.{rules}
@@ -12,8 +12,7 @@ use lib.IntN.{ℤ, pos}
 use lib.Signed.{non_neg}
 use lib.ListN.{length, get_or, drop, length-drop, length-take}
 use mir.Syntax.{w64}
-use mir.Val.{SFits, to_z, of_z}
-use mir.ValLaws.{to_z-of_z}
+use mir.Val.{to_z, of_z}
 use Rattle.fields.specs.Pieces.{Bytes}
 use Rattle.rows.specs.Fields.{Holds}
 use Rattle.rows.specs.Rows.{place_of, bad, refused, Tests, judged}
@@ -28,50 +27,48 @@ use Rattle.model.specs.Files.{line_of, is_word}
 use Rattle.model.proofs.Tests.{header_facts}
 use Rattle.listings.specs.declared.Levels.{Levels}
 use Rattle.listings.specs.Listings.{Listed, ListedWord, word_fields, listed_of}
-use Rattle.forms.specs.declared.NumbersAt.{NumbersAt}
-use Rattle.forms.specs.declared.NumbersAt.TheVariants.{Numbers, NotOfForm, OutOfRange}
+use Rattle.std.specs.Prelude.{Result, Ok, Err}
+use Rattle.model.specs.declared.Fault.{Fault}
+use Rattle.model.specs.declared.Fault.TheVariants.{NotOfForm, NumberOutOfRange}
+use Rattle.model.specs.Refusals.{number_of}
+use Rattle.forms.specs.declared.Numbers.{Numbers}
 use Rattle.forms.specs.Along.{line_in, numbers_in}
-use Rattle.forms.specs.Asked.{Asked, asked_at, described, read_as, any_outside, all_held, numbers_to}
+use Rattle.forms.specs.Asked.{Asked, read_as, any_outside, all_held, numbers_from, numbers_to}
 use Rattle.forms.proofs.TextLaws.{alike_numbers, small_held, numbers_closed, numbers_held}
+use Rattle.tables.specs.declared.Record.{Record}
 use Rattle.tables.specs.Records.{lines_of, lines_held}
 use Rattle.words.specs.declared.WordAt.{WordAt}
-use Rattle.words.specs.declared.WordRow.{WordRow}
 use Rattle.words.specs.Words.{row_of, held_word, row_in, word_found, listed_word}
-use Rattle.judging.specs.declared.LineRead.{LineRead}
+use Rattle.judging.specs.declared.StoredLine.{StoredLine}
 use Rattle.judging.specs.declared.FormedLine.{FormedLine}
 use Rattle.judging.specs.Judging.{NumbersFit, line_read, line_to, judged_as}
-use Rattle.lines.specs.declared.Level.{Level}
+use Rattle.lines.proofs.LevelLaws.{level_fault}
 use Rattle.lines.specs.Lines.{held_as, tested_as, listed_tests, turns_level, asked_by, level_held, word_judged}
 use Rattle.lines.proofs.HeldLaws.{asked_of, every_listed, judged_same}
 use Rattle.lines.proofs.AskedLaws.{held_line_of, range_of, held_at, LevelFits, Asking, asking}
 use Rattle.lines.proofs.LineLaws.{tested_word, operand_tests_lem, judged_held}
 
 -- ---- what an answer says: no numbers, one outside its range, or all of them as they are held
-pub data Answered (gs : List Asked) (place end : ℕ) (o : Option (List ℤ)) (r : NumbersAt) : Type 0 where
-  no_numbers : o ≡ none → r ≡ NotOfForm 1 place → Answered gs place end o r
-  one_outside : (ns : List ℤ) → o ≡ some ns → any_outside gs ns ≡ true → r ≡ OutOfRange → Answered gs place end o r
-  all_inside : (ns : List ℤ) → o ≡ some ns → any_outside gs ns ≡ false
-      → r ≡ Numbers (get_or (all_held gs ns) 0 (pos 0)) (get_or (all_held gs ns) 1 (pos 0)) (get_or (all_held gs ns) 2 (pos 0)) end → Answered gs place end o r
+abbrev as_numbers : ℤ → ℤ → ℤ → ℕ → Numbers
+as_numbers x y z e = record { first = x; second = y; third = z; end = e }
 
-pub answered : (gs : List Asked) (place end : ℕ) (o : Option (List ℤ)) (r : NumbersAt) → r ≡ numbers_to gs place end o → Answered gs place end o r
-answered gs place end none r e = no_numbers refl e
-answered gs place end (some ns) r e = go (any_outside gs ns) refl
+pub data Answered (gs : List Asked) (end : ℕ) (o : Option (List ℤ)) (r : Result Numbers Fault) : Type 0 where
+  no_numbers : o ≡ none → r ≡ Err NotOfForm → Answered gs end o r
+  one_outside : (ns : List ℤ) → o ≡ some ns → any_outside gs ns ≡ true → r ≡ Err NumberOutOfRange → Answered gs end o r
+  all_inside : (ns : List ℤ) → o ≡ some ns → any_outside gs ns ≡ false → r ≡ Ok (numbers_from (all_held gs ns) end) → Answered gs end o r
+
+pub answered : (gs : List Asked) (end : ℕ) (o : Option (List ℤ)) (r : Result Numbers Fault) → r ≡ numbers_to gs end o → Answered gs end o r
+answered gs end none r e = no_numbers refl e
+answered gs end (some ns) r e = go (any_outside gs ns) refl
   where
-    go : (b : Bool) → any_outside gs ns ≡ b → Answered gs place end (some ns) r
+    go : (b : Bool) → any_outside gs ns ≡ b → Answered gs end (some ns) r
     go true q = one_outside ns refl q (e ∙ rw q)
     go false q = all_inside ns refl q (e ∙ rw q)
 
--- no numbers were told
-pub record NotTold (o : Option (List ℤ)) (place m p : ℕ) : Type 0 where
-  pub nothing : o ≡ none
-  pub number : m ≡ 1
-  pub where_it_is : p ≡ place
-
--- numbers, of which one is outside its range
-pub record Outside (gs : List Asked) (o : Option (List ℤ)) : Type 0 where
-  pub given : List ℤ
-  pub read : o ≡ some given
-  pub outside : any_outside gs given ≡ true
+-- no numbers were told, or one is outside its range
+pub data Faulty (gs : List Asked) (o : Option (List ℤ)) (f : Fault) : Type 0 where
+  unformed : o ≡ none → f ≡ NotOfForm → Faulty gs o f
+  outside : (ns : List ℤ) → o ≡ some ns → any_outside gs ns ≡ true → f ≡ NumberOutOfRange → Faulty gs o f
 
 -- numbers that are held
 pub record Told (gs : List Asked) (o : Option (List ℤ)) (end : ℕ) (x y z : ℤ) (e : ℕ) : Type 0 where
@@ -83,45 +80,36 @@ pub record Told (gs : List Asked) (o : Option (List ℤ)) (end : ℕ) (x y z : �
   pub third : z ≡ get_or (all_held gs given) 2 (pos 0)
   pub ends : e ≡ end
 
-module _ {gs : List Asked} {place end : ℕ} {o : Option (List ℤ)} {r : NumbersAt} (a : Answered gs place end o r) where
-  pub not_told : {m p : ℕ} → r ≡ NotOfForm m p → NotTold o place m p
-  not_told {m} {p} is = go a
+module _ {gs : List Asked} {end : ℕ} {o : Option (List ℤ)} {r : Result Numbers Fault} (a : Answered gs end o r) where
+  pub not_told : {f : Fault} → r ≡ Err f → Faulty gs o f
+  not_told {f} is = go a
     where
-      go : Answered gs place end o r → NotTold o place m p
-      go (no_numbers nothing a) = record { nothing = nothing; number = cc; where_it_is = cc }
-      go (one_outside ns q u a) = absurd (let z : ◌≡◌ {A = ℕ} 0 1 = cc in omega arith)
+      go : Answered gs end o r → Faulty gs o f
+      go (no_numbers q a) = unformed q cc
+      go (one_outside ns q u a) = outside ns q u cc
       go (all_inside ns q u a) = absurd (let z : ◌≡◌ {A = ℕ} 0 1 = cc in omega arith)
 
-  pub told_outside : r ≡ OutOfRange → Outside gs o
-  told_outside is = go a
-    where
-      go : Answered gs place end o r → Outside gs o
-      go (no_numbers nothing a) = absurd (let z : ◌≡◌ {A = ℕ} 0 1 = cc in omega arith)
-      go (one_outside ns q u a) = record { given = ns; read = q; outside = u }
-      go (all_inside ns q u a) = absurd (let z : ◌≡◌ {A = ℕ} 0 1 = cc in omega arith)
-
-  pub told : {x y z : ℤ} {e : ℕ} → r ≡ Numbers x y z e → Told gs o end x y z e
+  pub told : {x y z : ℤ} {e : ℕ} → r ≡ Ok (as_numbers x y z e) → Told gs o end x y z e
   told {x} {y} {z} {e} is = go a
     where
-      go : Answered gs place end o r → Told gs o end x y z e
+      go : Answered gs end o r → Told gs o end x y z e
       go (no_numbers nothing a) = absurd (let z : ◌≡◌ {A = ℕ} 0 1 = cc in omega arith)
       go (one_outside ns q u a) = absurd (let z : ◌≡◌ {A = ℕ} 0 1 = cc in omega arith)
-      go (all_inside ns q u a) = record { given = ns; read = q; inside = u; first = cc; second = cc; third = cc; ends = cc }
+      go (all_inside ns q u a) =
+          let same : ◌≡◌ {A = Numbers} (as_numbers x y z e) (numbers_from (all_held gs ns) end) = cc in
+          record {
+            given = ns;
+            read = q;
+            inside = u;
+            first = ap (λ (m : Numbers). m.first) same;
+            second = ap (λ (m : Numbers). m.second) same;
+            third = ap (λ (m : Numbers). m.third) same;
+            ends = ap (λ (m : Numbers). m.end) same;
+          }
 
--- ---- the numbers that a row describes, its least as the machine holds it
+-- as the machine holds a number
 abbrev machine : ℤ → ℤ
 machine z = to_z w64 (of_z w64 z)
-
-pub as_described : (turns : Bool) (row : WordRow) (top place end : ℕ) (t : Bytes) → SFits w64 row.least → (least : ℤ) → SFits w64 least
-    → least ≡ cond turns (pos 0) (machine row.least) → (r : NumbersAt)
-    → (let gs = described row.fields (asked_at row.operands (machine least) row.largest top) in r ≡ numbers_to gs place end (numbers_in (map read_as gs) t))
-    → r ≡ numbers_to (asked_by turns row top) place end (numbers_in (map read_as (asked_by turns row top)) t)
-as_described turns row top place end t s least f is r q =
-    subst
-    (λ (z : ℤ). let gs = described row.fields (asked_at row.operands z row.largest top) in r ≡ numbers_to gs place end (numbers_in (map read_as gs) t))
-    (to_z-of_z w64 least f ∙ is ∙ ap (cond turns (pos 0)) (to_z-of_z w64 row.least s)) q
-
-pub ruleset row_laws = (rules, as_described)
 
 -- ---- the line of a word
 -- no word has more than three fields
@@ -149,8 +137,8 @@ module _ (levels : Levels) (h : Header) (found : WordAt) (is_found : found ≡ w
   unfolding word_judged
   no_word g lines t q e = let lacks : has_word g (held_word v) ≡ false = ap (has_word g) (sym held_as_lem) ∙ sym q ∙ e in rw lacks
 
-  module _ (turns : Bool) (is_turned : turns ≡ turns_level levels found.row.fields) (header : T (header_in_range h)) (r : NumbersAt)
-      (q : r ≡ numbers_to (asked_by turns found.row h.top) (n + 2) end (numbers_in (map read_as (asked_by turns found.row h.top)) rest)) where
+  module _ (turns : Bool) (is_turned : turns ≡ turns_level levels found.row.fields) (header : T (header_in_range h)) (r : Result Numbers Fault)
+      (q : r ≡ numbers_to (asked_by turns found.row h.top) end (numbers_in (map read_as (asked_by turns found.row h.top)) rest)) where
     few : h.top ≤ 60
     few = (header_facts h header).top.most
 
@@ -171,17 +159,17 @@ module _ (levels : Levels) (h : Header) (found : WordAt) (is_found : found ≡ w
     described_so = ap₂ (λ (b : Bool) (f : WordAt). asked_by b f.row h.top) turns_so is_found ∙ asks.asked
 
     -- by which they are read as by their description
-    answer : Answered gs (n + 2) end (numbers_in (word_fields v) rest) r
+    answer : Answered gs end (numbers_in (word_fields v) rest) r
     answer =
-        answered gs (n + 2) end (numbers_in (word_fields v) rest) r
-        (q ∙ ap (λ (as' : List Asked). numbers_to as' (n + 2) end (numbers_in (map read_as as') rest)) described_so
-        ∙ ap (numbers_to gs (n + 2) end) (sym (alike_numbers (word_fields v) (map read_as gs) rest asks.read_so)))
+        answered gs end (numbers_in (word_fields v) rest) r
+        (q ∙ ap (λ (as' : List Asked). numbers_to as' end (numbers_in (map read_as as') rest)) described_so
+        ∙ ap (numbers_to gs end) (sym (alike_numbers (word_fields v) (map read_as gs) rest asks.read_so)))
 
     held_so : (ns : List ℤ) → numbers_in (word_fields v) rest ≡ some ns → Fields Held fs ns
     held_so ns read = numbers_held fs rest (sym (alike_numbers (word_fields v) fs rest asks.same) ∙ read)
 
     -- the numbers that are told, each as it is held
-    module _ (x y z : ℤ) (e : ℕ) (is : r ≡ Numbers x y z e) where
+    module _ (x y z : ℤ) (e : ℕ) (is : r ≡ Ok (as_numbers x y z e)) where
       numbers_told : Told gs (numbers_in (word_fields v) rest) end x y z e
       numbers_told = told answer is
 
@@ -209,14 +197,14 @@ module _ (levels : Levels) (h : Header) (found : WordAt) (is_found : found ≡ w
       pub level_unsigned : turns ≡ true → T (non_neg (machine z))
       level_unsigned t = subst (λ (u : ℤ). T (non_neg u)) (sym third_is) (asks.unsigned (sym turns_so ∙ t) numbers_told.given given_held numbers_told.inside)
 
-      module _ (level : Level) (turned : level ≡ level_held turns h.top (machine y) (machine z)) where
+      module _ (level : Result ℤ Fault) (turned : level ≡ level_held turns h.top (machine y) (machine z)) where
         turned_so : level_held (turns_level levels (row_in v).fields) h.top (at 1) (at 2) ≡ level
         turned_so = sym (turned ∙ (λ i. level_held (turns_so i) h.top (second_is i) (third_is i)))
 
-        low : level ≡ Level.Outside → range_of levels h v numbers_told.given ≡ false
+        low : level ≡ Err NumberOutOfRange → range_of levels h v numbers_told.given ≡ false
         low q = asks.too_low numbers_told.given given_held numbers_told.inside (turned_so ∙ q)
 
-        module _ (u : ℤ) (held : level ≡ Level.Held u) where
+        module _ (u : ℤ) (held : level ≡ Ok u) where
           fits : LevelFits levels h v fs numbers_told.given u
           fits = asks.level_held_lem numbers_told.given given_held numbers_told.inside u (turned_so ∙ held)
 
@@ -237,10 +225,6 @@ module _ (levels : Levels) (h : Header) (found : WordAt) (is_found : found ≡ w
       has_word_lem : has_word g (held_word v) ≡ true
       has_word_lem = ap (has_word g) (sym held_as_lem) ∙ sym k ∙ has
 
-      pub no_form : (m p : ℕ) → r ≡ NotOfForm m p → refused m p ≡ line_to (place_of n) (end + 1) (word_judged levels g h lines v rest)
-      unfolding word_judged
-      no_form m p is = let nothing = not_told answer is in rw (nothing.number, nothing.where_it_is, has_word_lem, nothing.nothing)
-
       -- a line that was read is one of the file's
       module _ (ns : List ℤ) (read : numbers_in (word_fields v) rest ≡ some ns) where
         abbrev x : Listed
@@ -260,28 +244,34 @@ module _ (levels : Levels) (h : Header) (found : WordAt) (is_found : found ≡ w
         unfolding judged_as
         word_judged_lem e = tested ∙ rw (is_word_lem, e) (ap (λ (ts : Tests). judged ts (held_as levels h x)) (operand_tests_lem levels g h lines x))
 
-      pub out_of_range : r ≡ OutOfRange → refused 11 (n + 2) ≡ line_to (place_of n) (end + 1) (word_judged levels g h lines v rest)
-      out_of_range is =
-          let o = told_outside answer is in
-          sym (ap (line_to (place_of n) (end + 1)) (out o.given o.read (asks.outside o.given (held_so o.given o.read) o.outside)))
+      pub not_read : (f : Fault) → r ≡ Err f → refused (number_of f) (n + 2) ≡ line_to (place_of n) (end + 1) (word_judged levels g h lines v rest)
+      unfolding word_judged
+      not_read f is = go (not_told answer is)
+        where
+          go : Faulty gs (numbers_in (word_fields v) rest) f → refused (number_of f) (n + 2) ≡ line_to (place_of n) (end + 1) (word_judged levels g h lines v rest)
+          go (unformed q k) = rw (k, has_word_lem, q)
+          go (outside ns q u k) =
+              rw k (sym (ap (line_to (place_of n) (end + 1)) (out ns q (asks.outside ns (held_so ns q) u))))
 
-      module _ (x y z : ℤ) (e : ℕ) (is : r ≡ Numbers x y z e) (level : Level) (turned : level ≡ level_held turns h.top (machine y) (machine z)) where
+      module _ (x y z : ℤ) (e : ℕ) (is : r ≡ Ok (as_numbers x y z e)) (level : Result ℤ Fault) (turned : level ≡ level_held turns h.top (machine y) (machine z)) where
         abbrev numbers : Told gs (numbers_in (word_fields v) rest) end x y z e
         numbers = numbers_told x y z e is
 
-        pub level_outside : level ≡ Level.Outside → refused 11 (n + 2) ≡ line_to (place_of n) (end + 1) (word_judged levels g h lines v rest)
-        level_outside o = sym (ap (line_to (place_of n) (end + 1)) (out numbers.given numbers.read (low x y z e is level turned o)))
+        pub level_outside : (f : Fault) → level ≡ Err f → refused (number_of f) (n + 2) ≡ line_to (place_of n) (end + 1) (word_judged levels g h lines v rest)
+        level_outside f o =
+            let low_so = level_fault turns h.top (machine y) (machine z) (sym turned ∙ o) in
+            rw low_so (sym (ap (line_to (place_of n) (end + 1)) (out numbers.given numbers.read (low x y z e is level turned (o ∙ ap (λ (k : Fault). Err k) low_so)))))
 
         pub line_judged_lem :
-            (u : ℤ) → level ≡ Level.Held u → length lines ≤ 1792 →
+            (u : ℤ) → level ≡ Ok u → length lines ≤ 1792 →
             (line : FormedLine) →
-            line ≡ record { word = found.word; asks = found.row.asks; first = machine x; second = machine y; third = machine u; end = e + 1 } → (a : LineRead) →
-            line_read line.word a ≡ line_to (place_of n) line.end (judged_as g lines (line_of line.word (line.first ∷ line.second ∷ line.third ∷ []))) →
-            line_read found.word a ≡ line_to (place_of n) (end + 1) (word_judged levels g h lines v rest)
+            line ≡ record { word = found.word; asks = found.row.asks; first = machine x; second = machine y; third = machine u; end = e + 1 } → (a : Result StoredLine Fault) →
+            line_read (place_of n) a ≡ line_to (place_of n) line.end (judged_as g lines (line_of line.word (line.first ∷ line.second ∷ line.third ∷ []))) →
+            line_read (place_of n) a ≡ line_to (place_of n) (end + 1) (word_judged levels g h lines v rest)
         line_judged_lem u held short line made a j =
             let level_fits = fits x y z e is level turned u held in
             subst
-            (λ (l : FormedLine). line_read l.word a ≡ line_to (place_of n) l.end (judged_as g lines (line_of l.word (l.first ∷ l.second ∷ l.third ∷ []))))
+            (λ (l : FormedLine). line_read (place_of n) a ≡ line_to (place_of n) l.end (judged_as g lines (line_of l.word (l.first ∷ l.second ∷ l.third ∷ []))))
             made j
             ∙ ap₂ (λ (m : ℕ) (l : Line). line_to (place_of n) (m + 1) (judged_as g lines l)) numbers.ends
             ((λ i. line_of (held_as_lem i) (first_is x y z e is i ∷ second_is x y z e is i ∷ level_is x y z e is level turned u held i ∷ [])) ∙ level_fits.line)
@@ -289,7 +279,7 @@ module _ (levels : Levels) (h : Header) (found : WordAt) (is_found : found ≡ w
             (judged_same h.top few lines short g fs (held_line_of levels h v) asks.names (given_held x y z e is) numbers.inside
             ∙ sym (word_judged_lem numbers.given numbers.read level_fits.ranged))
 
-pub held_few : (records : List (List ℕ)) (count : ℕ) → count ≤ 1792 → length (lines_held records count) ≤ 1792
+pub held_few : (records : List Record) (count : ℕ) → count ≤ 1792 → length (lines_held records count) ≤ 1792
 held_few records count few = omega (arith, length-take count (lines_of records))
 
 -- what is known of the word is known of the line
@@ -301,4 +291,4 @@ module _ (found : WordAt) (is_found : found ≡ word_found (listed_word found) f
       ∙ sym (ap (λ (l : FormedLine). (row_of l.word).asks) made ∙ ap (λ (f : WordAt). (row_of f.word).asks) is_found)
 
 pub ruleset line_laws =
-    (rules, not-true, not-false, three_fields_lem, no_word, no_form, out_of_range, level_unsigned, level_outside, line_fits, line_judged_lem, held_few, line_asks)
+    (rules, not-true, not-false, three_fields_lem, no_word, not_read, level_unsigned, level_outside, line_fits, line_judged_lem, held_few, line_asks)

@@ -1,11 +1,13 @@
 -- What the code uses: the line that a text begins with, in a file that counts levels so.
-use Rattle.std.specs.Prelude.{ℕ, Bool, false, cond, ◌||◌, List, eqb, ℤ, pos, ◌-ℤ◌}
+use Rattle.std.specs.Prelude.{Result, Ok, Err, ℕ, Bool, false, cond, ◌||◌, List, eqb, ℤ, pos, ◌-ℤ◌}
 use Rattle.std.proofs.Math.Option.{map}
 use Rattle.std.specs.Int.Signed.{lt_z}
 use Rattle.fields.specs.Pieces.{Bytes}
 use Rattle.rows.specs.Forms.{Form, worded, made}
 use Rattle.rows.specs.Rows.{Judgement, good, bad, Tests, formed}
 use Rattle.model.specs.declared.Grammar.{Grammar}
+use Rattle.model.specs.declared.Fault.{Fault}
+use Rattle.model.specs.declared.Fault.TheVariants.{NumberOutOfRange}
 use Rattle.model.specs.declared.Header.{Header}
 use Rattle.model.specs.declared.Line.{Line}
 use Rattle.model.specs.declared.Line.TheVariants.{Rs}
@@ -16,11 +18,10 @@ use Rattle.listings.specs.declared.Levels.TheVariants.{Falling, Rising}
 use Rattle.listings.specs.Listings.{Listed, line, downscale, ListedWord, word_fields, said_listed, listed_of, as_schedules}
 use Rattle.listings.specs.Held.{held_line}
 use Rattle.forms.specs.Along.{line_in, is_closed, numbers_in}
-use Rattle.forms.specs.Asked.{Asked, asked_at, described}
+use Rattle.forms.specs.declared.FieldsAsked.{FieldsAsked}
+use Rattle.forms.specs.Asked.{Asked, described}
 use Rattle.words.specs.declared.WordRow.{WordRow}
 use Rattle.words.specs.Words.{vocabulary_of, held_word}
-use Rattle.lines.specs.declared.Level.{Level}
-use Rattle.lines.specs.declared.Level.TheVariants.{Held, Outside}
 
 -- ---- a line that was read
 -- as a table holds it, and the schedule's line that its tests are of
@@ -52,13 +53,17 @@ turns_level Falling fields = false
 turns_level Rising fields = eqb fields 3
 
 -- what a word's row asks of its fields, in a file with this top level
+abbrev pub fields_asked : Bool → WordRow → ℕ → FieldsAsked
+fields_asked turns row top =
+    record { count = row.fields; operands = row.operands; least = cond turns (pos 0) row.least; largest = row.largest; third = top }
+
 abbrev pub asked_by : Bool → WordRow → ℕ → List Asked
-asked_by turns row top = described row.fields (asked_at row.operands (cond turns (pos 0) row.least) row.largest top)
+asked_by turns row top = described (fields_asked turns row top)
 
 -- the third number as it is held
-unfoldable pub level_held : Bool → ℕ → ℤ → ℤ → Level
+unfoldable pub level_held : Bool → ℕ → ℤ → ℤ → Result ℤ Fault
 level_held turns top second third =
-    cond turns (cond (lt_z second (pos 1) || lt_z (pos top -ℤ third) (pos 1)) Outside (Held (pos top -ℤ third))) (Held third)
+    cond turns (cond (lt_z second (pos 1) || lt_z (pos top -ℤ third) (pos 1)) (Err NumberOutOfRange) (Ok (pos top -ℤ third))) (Ok third)
 
 -- ---- the line
 -- one whose word ends here, after lines that are held: 1 where the file has no such word

@@ -2,7 +2,7 @@
 // it no more is asked than the kinds of those that it names.
 #![tactic(auto)]
 
-ghost use Rattle.std.specs.Prelude.{◌≡◌, map, ◌+◌, ◌≤◌, true, cond, T, pos, length, drop};
+ghost use Rattle.std.specs.Prelude.{◌≡◌, map, ◌+◌, ◌≤◌, true, T, pos, length, drop};
 ghost use Rattle.std.specs.Int.Signed.{non_neg};
 ghost use Rattle.rows.specs.Rows.{place_of};
 ghost use Rattle.model.specs.Scales.{header_in_range};
@@ -11,81 +11,64 @@ ghost use Rattle.forms.specs.Asked.{read_as, numbers_to};
 ghost use Rattle.tables.specs.Records.{lines_held};
 ghost use Rattle.words.specs.Words.{word_found, listed_word};
 ghost use Rattle.judging.specs.Judging.{line_read, line_to};
-ghost use Rattle.lines.specs.Lines.{turns_level, asked_by, level_held, word_judged};
+ghost use Rattle.lines.specs.Lines.{turns_level, fields_asked, asked_by, level_held, word_judged};
 
-use forms::NumbersAt;
-use judging::LineRead;
+use forms::{FieldsAsked, Numbers};
+use judging::{FormedLine, StoredLine};
 use listings::Levels;
-use model::{Grammar, Header};
+use model::{Fault, Grammar, Header};
 use tables::Record;
 use words::{WordAt, WordRow};
 
 // Whether a line with so many fields has a level that is counted up: of a listing's words only `enc` has three.
+#[tactic(auto, unfolding(crate::specs::Lines::turns_level))]
 fn turns_level(levels: Levels, fields: usize) -> bool
     ensures { result ≡ turns_level levels fields }
 {
-    match levels {
-        Levels::Falling => false,
-        Levels::Rising => fields == 3,
-    }
+    levels == Levels::Rising && fields == 3
 }
 
-// The least that such a line's numbers are read with: a level that is counted up may be 0.
-fn least_of(turns: bool, least: i64) -> i64
-    ensures { result ≡ cond turns (pos 0) least }
+// What a word's row asks of the fields after it, in a file with this top level: a level that is counted up may be 0.
+fn fields_asked(row: WordRow, turns: bool, top: u32) -> FieldsAsked
+    ensures { result ≡ fields_asked turns row top }
 {
-    if turns {
-        return 0;
+    FieldsAsked {
+        count: row.fields,
+        operands: row.operands,
+        least: if turns { 0 } else { row.least },
+        largest: row.largest,
+        third: top,
     }
-    least
 }
 
-// The numbers of the fields that a word's row describes, in a file with this top level.
+// The numbers of these fields.
 fn numbers_of(
-    place: u32,
     text: &[u8],
     start: usize,
     row: WordRow,
     turns: bool,
     top: u32,
-) -> NumbersAt
+) -> Result<Numbers, Fault>
     requires { row.fields ≤ 3 }
-    ensures { result ≡ numbers_to (asked_by turns row top) place (start + length (line_in (drop start text.now))) (numbers_in (map read_as (asked_by turns row top)) (drop start text.now)) }
+    ensures { result ≡ numbers_to (asked_by turns row top) (start + length (line_in (drop start text.now))) (numbers_in (map read_as (asked_by turns row top)) (drop start text.now)) }
 {
-    forms::numbers_at(
-        place,
-        text,
-        start,
-        row.fields,
-        row.operands,
-        least_of(turns, row.least),
-        row.largest,
-        top,
-    )
+    forms::numbers_at(text, start, &fields_asked(row, turns, top))
 }
 
-// A line's third number as its record holds it, a level counted down; or the scale before it or the level is outside its range.
-#[derive(Clone, Copy)]
-pub enum Level {
-    Held(i64),
-    Outside,
-}
-
-fn level_held(turns: bool, top: u32, second: i64, third: i64) -> Level
+// A line's third number as its record holds it, a level counted down, unless the scale before it or the level is outside its range.
+#[tactic(auto, unfolding(crate::specs::Lines::level_held))]
+fn level_held(turns: bool, top: u32, second: i64, third: i64) -> Result<i64, Fault>
     requires { turns ≡ true → T (non_neg third) }
     ensures { result ≡ level_held turns top second third }
 {
     if !turns {
-        return Level::Held(third);
+        return Ok(third);
     }
     let level = (top as i64) - third;
-    if second < 1 {
-        return Level::Outside;
+    if second < 1 || level < 1 {
+        return Err(Fault::NumberOutOfRange);
     }
-    if level < 1 {
-        return Level::Outside;
-    }
-    Level::Held(level)
+    Ok(level)
 }
 
 // One line, after those of the first `count` records, by the word that it begins with, in a file that counts levels so.
@@ -98,35 +81,28 @@ pub fn read_line(
     count: usize,
     text: &[u8],
     found: WordAt,
-) -> LineRead
+) -> Result<StoredLine, Fault>
     requires t { T (header_in_range header) }
     requires count_in_bounds { count ≤ length records.now }
     requires count_bound { count ≤ 1792 }
     requires found_value { found ≡ word_found (listed_word found) found.end }
-    ensures { line_read found.word result ≡ line_to (place_of count) (found.end + length (line_in (drop found.end text.now)) + 1) (word_judged levels grammar header (lines_held records.now count) (listed_word found) (drop found.end text.now)) }
+    ensures { line_read (place_of count) result ≡ line_to (place_of count) (found.end + length (line_in (drop found.end text.now)) + 1) (word_judged levels grammar header (lines_held records.now count) (listed_word found) (drop found.end text.now)) }
 {
-    let place = (count as u32) + 2;
     let word = found.word;
     if !words::is_word_of(grammar, word) {
-        return LineRead::Bad { number: 1, place };
+        return Err(Fault::NotOfForm);
     }
     let row = found.row;
-    let asks = row.asks;
     let turns = turns_level(levels, row.fields);
-    match numbers_of(place, text, found.end, row, turns, header.top) {
-        NumbersAt::NotOfForm { number, place } => LineRead::Bad { number, place },
-        NumbersAt::OutOfRange => LineRead::Bad { number: 11, place },
-        NumbersAt::Numbers {
-            first,
-            second,
-            third,
-            end,
-        } => {
-            let Level::Held(level) = level_held(turns, header.top, second, third) else {
-                return LineRead::Bad { number: 11, place };
-            };
-            let line = judging::formed(word, asks, first, second, level, end + 1);
-            judging::judge(grammar, records, count, line)
-        }
-    }
+    let numbers = numbers_of(text, found.end, row, turns, header.top)?;
+    let level = level_held(turns, header.top, numbers.second, numbers.third)?;
+    let line = FormedLine {
+        word,
+        asks: row.asks,
+        first: numbers.first,
+        second: numbers.second,
+        third: level,
+        end: numbers.end + 1,
+    };
+    judging::judge(grammar, records, count, line)
 }

@@ -10,6 +10,9 @@ use mathlib.Core.Logic.{⊎_elim}
 use borrow.Author.Rules.{rules}
 use lib.ListN.{length, get_or, take, set, replicate, length-set, length-append, length-replicate, get_or-replicate, get_or-eq_default}
 use lib.Seq.{length-take-le, take_all, take-suc, take-suc-set, get_or-take}
+use Rattle.rows.specs.Rows.{place_of}
+use Rattle.model.specs.declared.Fault.TheVariants.{TooManyLines}
+use Rattle.model.specs.declared.Refusal.{Refusal}
 use Rattle.model.specs.declared.Grammar.TheVariants.{Schedule}
 use Rattle.model.specs.declared.Header.{Header}
 use Rattle.model.specs.declared.Line.{Line}
@@ -19,6 +22,7 @@ use Rattle.model.specs.Services.{renumbered}
 use Rattle.model.proofs.Tests.{below_or_not}
 use Rattle.text.specs.Tables.{TableFormed}
 use Rattle.listings.specs.Held.{is_downscale, named, counted_table, convert_held_from, convert_held}
+use Rattle.tables.specs.declared.Record.{Record}
 use Rattle.tables.specs.Records.{line_of, lines_of, lines_held, free_records, held}
 use Rattle.operands.specs.Operands.{first_operand, second_operand, with_operands}
 use Rattle.tables.proofs.Records.{free_long}
@@ -32,7 +36,7 @@ use Rattle.listingtable.specs.Conversion.{LineReady, LineBecomes, one_line, two_
 
 -- The loop's invariant: the records hold what the first i lines become, and whatever follows those is converted by the names so far. Before the
 -- first line every name is 0.
-pub record Converting (h : Header) (listing : List (List ℕ)) (count : ℕ) (scales : List ℕ) (schedule : List (List ℕ)) (names : List ℕ) (at i : ℕ) : Type 0 where
+pub record Converting (h : Header) (listing : List Record) (count : ℕ) (scales : List ℕ) (schedule : List Record) (names : List ℕ) (at i : ℕ) : Type 0 where
   pub formed : TableFormed Schedule (counted_table (held h listing count))
   pub below : DownscalesBelow h (lines_held listing count) scales
   pub few : count ≤ 1792
@@ -48,11 +52,11 @@ pub record Converting (h : Header) (listing : List (List ℕ)) (count : ℕ) (sc
       ≡ lines_held schedule at ++ convert_held_from h (λ a. get_or scales a 0) (take i names) at rest
 
 -- the records were free, and are as many as they were
-pub as_many : (before after : List (List ℕ)) → before ≡ free_records → length after ≡ 1792 → length after ≡ length before
+pub as_many : (before after : List Record) → before ≡ free_records → length after ≡ 1792 → length after ≡ length before
 as_many before after free room = room ∙ sym (free_long before free)
 
 pub start :
-    (h : Header) (listing : List (List ℕ)) (count : ℕ) (scales : List ℕ) (schedule : List (List ℕ)) → TableFormed Schedule (counted_table (held h listing count)) →
+    (h : Header) (listing : List Record) (count : ℕ) (scales : List ℕ) (schedule : List Record) → TableFormed Schedule (counted_table (held h listing count)) →
     DownscalesBelow h (lines_held listing count) scales → schedule ≡ free_records → Converting h listing count scales schedule (replicate 1792 0) 0 0
 start h listing count scales schedule formed below free =
     record {
@@ -69,7 +73,7 @@ start h listing count scales schedule formed below free =
     }
 
 module _
-    (h : Header) (listing : List (List ℕ)) (count : ℕ) (scales : List ℕ) (schedule : List (List ℕ)) (names : List ℕ) (at i : ℕ)
+    (h : Header) (listing : List Record) (count : ℕ) (scales : List ℕ) (schedule : List Record) (names : List ℕ) (at i : ℕ)
     (k : Converting h listing count scales schedule names at i) where
   abbrev lines : List Line
   lines = lines_held listing count
@@ -90,7 +94,7 @@ module _
   still_room = k.room
 
   -- room for two records
-  pub second_there : (us : List ℕ) → at < 1791 → at + 1 < length (set schedule at us)
+  pub second_there : (us : Record) → at < 1791 → at + 1 < length (set schedule at us)
   second_there us free = omega (arith, length-set schedule at us, k.room)
 
   -- what the lines so far become
@@ -183,11 +187,14 @@ module _
       with_line =
           ap (convert_held h scale) (take-suc lines i Free (omega (arith, long_lines)) ∙ ap (λ (x : Line). take i lines ++ (x ∷ [])) line_is) ∙ from_here []
 
-      no_room : (more : ℕ) → length (after (becomes_lines r) []) ≡ more → 1792 < at + more → NoRoom h scale lines (i + 2)
-      no_room more long over =
+      no_room :
+          (more : ℕ) → length (after (becomes_lines r) []) ≡ more → 1792 < at + more → (x : Refusal) → x ≡ record { fault = TooManyLines; place = place_of i } →
+          NoRoom h scale lines x
+      no_room more long over x is =
           record {
             line_number = i;
-            place_is = refl;
+            fault_is = ap (λ (y : Refusal). y.fault) is;
+            place_is = ap (λ (y : Refusal). y.place) is;
             below = omega (arith, long_lines);
             before = omega (arith, ap (length {A = Line}) so_far, held_long, k.fits);
             with_it =
@@ -195,17 +202,18 @@ module _
           }
 
       -- the schedule is full
-      pub full_at_one : (m a b c : ℕ) → r ≡ One m a b c → 1792 ≤ at → NoRoom h scale lines (i + 2)
-      full_at_one m a b c e over =
+      pub full_at_one : (m : Record) → r ≡ One m → 1792 ≤ at → (x : Refusal) → x ≡ record { fault = TooManyLines; place = place_of i } → NoRoom h scale lines x
+      full_at_one m e over =
           no_room 1 (ap (λ (r' : Becomes). length (after (becomes_lines r') [])) e) (omega arith)
 
-      pub full_at_two : (a bits : ℕ) → r ≡ Two a bits → 1791 ≤ at → NoRoom h scale lines (i + 2)
+      pub full_at_two :
+          (a bits : ℕ) → r ≡ Two a bits → 1791 ≤ at → (x : Refusal) → x ≡ record { fault = TooManyLines; place = place_of i } → NoRoom h scale lines x
       full_at_two a bits e over =
           no_room 2 (ap (λ (r' : Becomes). length (after (becomes_lines r') [])) e) (omega arith)
 
       -- the lines that it becomes are stored, and one of them stands for it
       goes_on :
-          (schedule' : List (List ℕ)) (n at' : ℕ) (stored : List Line) → length schedule' ≡ 1792 → at' ≤ 1792 → at' ≤ at + 2 →
+          (schedule' : List Record) (n at' : ℕ) (stored : List Line) → length schedule' ≡ 1792 → at' ≤ 1792 → at' ≤ at + 2 →
           lines_held schedule' at' ≡ lines_held schedule at ++ stored →
           ((rest : List Line) → after (becomes_lines r) rest ≡ stored ++ convert_held_from h scale (take i names ++ (n ∷ [])) at' rest) →
           Converting h listing count scales schedule' (set names i n) at' (i + 1)
@@ -228,19 +236,18 @@ module _
                 ∙ ap (λ (l : List Line). l ++ convert_held_from h scale (take i names ++ (n ∷ [])) at' rest) (sym holds));
           }
 
-      module _ (schedule' : List (List ℕ)) (names' : List ℕ) (at' : ℕ) where
+      module _ (schedule' : List Record) (names' : List ℕ) (at' : ℕ) where
         pub after_one :
-            (m a b c : ℕ) → r ≡ One m a b c → at < 1792 → schedule' ≡ set schedule at (m ∷ a ∷ b ∷ c ∷ []) → names' ≡ set names i at → at' ≡ at + 1 →
+            (m : Record) → r ≡ One m → at < 1792 → schedule' ≡ set schedule at m → names' ≡ set names i at → at' ≡ at + 1 →
             Converting h listing count scales schedule' names' at' (i + 1)
-        after_one m a b c e free p q n =
-            let one = m ∷ a ∷ b ∷ c ∷ [] in
+        after_one m e free p q n =
             rw (p, q, n)
-            (goes_on (set schedule at one) at (at + 1) (line_of one ∷ []) (length-set schedule at one ∙ k.room) (omega arith) (omega arith)
-            (stored_lines schedule at one (line_of one) (omega (arith, k.room)) refl)
+            (goes_on (set schedule at m) at (at + 1) (line_of m ∷ []) (length-set schedule at m ∙ k.room) (omega arith) (omega arith)
+            (stored_lines schedule at m (line_of m) (omega (arith, k.room)) refl)
             (λ rest. ap (λ (r' : Becomes). after (becomes_lines r') rest) e ∙ rw (add-one at)))
 
         pub after_two :
-            (a bits : ℕ) → r ≡ Two a bits → at < 1791 → (us rs : List ℕ) → line_of us ≡ Us a bits → line_of rs ≡ Rs at 1 →
+            (a bits : ℕ) → r ≡ Two a bits → at < 1791 → (us rs : Record) → line_of us ≡ Us a bits → line_of rs ≡ Rs at 1 →
             schedule' ≡ set (set schedule at us) (at + 1) rs → names' ≡ set names i (at + 1) → at' ≡ at + 2 →
             Converting h listing count scales schedule' names' at' (i + 1)
         after_two a bits e free us rs us-is rs-is p q n =

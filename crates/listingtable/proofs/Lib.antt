@@ -1,3 +1,2 @@
-mod LineLaws
 mod Converting
 pub mod SameScales

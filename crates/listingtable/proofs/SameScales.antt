@@ -14,11 +14,12 @@ use Rattle.model.specs.declared.Line.TheVariants.{Rs, Us, Free}
 use Rattle.model.specs.Services.{renumbered}
 use Rattle.text.specs.Tables.{TableFormed}
 use Rattle.listings.specs.Held.{is_downscale, named, counted_table, found_scales, convert_held_from, convert_held}
+use Rattle.tables.specs.declared.Record.{Record}
 use Rattle.tables.specs.Records.{lines_held, held}
 use Rattle.rules.specs.Scales.{ScalesLeft}
 use Rattle.rules.proofs.Downscales.{named_there}
-use Rattle.listingtable.specs.declared.Converted.{Converted}
-use Rattle.listingtable.specs.declared.Converted.TheVariants.{Lines, Full}
+use Rattle.std.specs.Prelude.{Result, Ok, Err}
+use Rattle.model.specs.declared.Refusal.{Refusal}
 use Rattle.listingtable.specs.Conversion.{ConvertedTo}
 
 -- the same scale of what a line names
@@ -47,7 +48,7 @@ module _ (h : Header) (s s' : ℕ → ℕ) where
   same_converted xs e = same_from xs [] 0 e
 
 module _
-    (h : Header) (records : List (List ℕ)) (count : ℕ) (formed : TableFormed Schedule (counted_table (held h records count))) (scales : List ℕ)
+    (h : Header) (records : List Record) (count : ℕ) (formed : TableFormed Schedule (counted_table (held h records count))) (scales : List ℕ)
     (left : ScalesLeft h (lines_held records count) scales) where
   abbrev lines : List Line
   lines = lines_held records count
@@ -73,13 +74,14 @@ module _
 
   -- what the code has made of the listing, with the scales that the rules found
   pub converted_found :
-      (r : Converted) (schedule : List (List ℕ)) → ConvertedTo h left_behind lines r schedule → ConvertedTo h (found_scales h lines) lines r schedule
-  converted_found (Lines n) schedule c =
+      (r : Result ℕ Refusal) (schedule : List Record) → ConvertedTo h left_behind lines r schedule → ConvertedTo h (found_scales h lines) lines r schedule
+  converted_found (Ok n) schedule c =
       record { held = c.held ∙ left_converted; long = ap (length {A = Line}) (sym left_converted) ∙ c.long; few = c.few }
-  converted_found (Full place) schedule c =
+  converted_found (Err r) schedule c =
       let i = c.line_number in
       record {
         line_number = i;
+        fault_is = c.fault_is;
         place_is = c.place_is;
         below = c.below;
         before = subst (λ (l : List Line). length l ≤ 1792) (first_converted i) c.before;

@@ -1,31 +1,19 @@
 -- The entries and counts as bytes: two bytes of a number, and four for each value so far. Assumes nothing.
-use Prim.Native.Nat.{ℕ, zero, suc, ◌+◌, ◌*◌, ◌/◌, ◌%◌, ◌≤◌, ◌<◌}
-use native.Mathlib.Nat.{add-zero}
+use Prim.Native.Nat.{ℕ, zero, suc, ◌+◌, ◌-◌, ◌*◌, ◌/◌, ◌%◌, ◌≤◌, ◌<◌}
+use native.Mathlib.Nat.{add-zero, add-suc}
 use native.Mathlib.Numerals.{add-one}
 use native.Mathlib.Omega.{arith}
-use mathlib.Core.Path.{◌≡◌, refl, sym, ap, ◌∙◌, subst}
-use mathlib.Core.List.{List, [], ◌∷◌, ◌++◌}
+use mathlib.Core.Path.{◌≡◌, refl, sym, ap, ◌∙◌}
+use mathlib.Core.List.{List, [], ◌++◌, append_assoc}
 use mathlib.Core.Logic.{⊎_elim}
-use borrow.Author.Rules.{rules}
 use lib.ListN.{length, get_or, length-append, get_or-append}
 use lib.Seq.{get_or-append-add}
+use Rattle.std.proofs.lemmas.List.{append-nil}
 use Rattle.fields.specs.Pieces.{Bytes}
 use Rattle.model.specs.declared.Line.{Line}
 use Rattle.model.proofs.Tests.{below_or_not}
-use Rattle.spelling.specs.Put.{Put}
-use Rattle.spelling.proofs.Puts.{put_both, put_nothing}
 use Rattle.liveness.specs.Live.{entry_of, live_after, two_bytes, four_bytes, bytes_to, live_bytes}
 use Rattle.liveness.specs.Kept.{HasEntries, HasCounts, pairs_to}
-
--- ---- two bytes
-module _ (s : Bytes) (at n : ℕ) (l : at + 2 ≤ length s) (next : ℕ) (s1 : Bytes) (first : Put s at (n % 256 ∷ []) next s1) where
-  pub second_room : length s1 ≡ length s → next < length s1
-  second_room k = omega (arith, first.place)
-
-  pub both_bytes_lem : (r : ℕ) (s2 : Bytes) → Put s1 next (n / 256 ∷ []) r s2 → Put s at (two_bytes n) r s2
-  both_bytes_lem r s2 second = put_both s at (n % 256 ∷ []) (n / 256 ∷ []) (two_bytes n) l refl next s1 first r s2 second
-
-pub ruleset two_laws = (rules, second_room, both_bytes_lem)
 
 -- ---- four bytes for each value
 pub pairs_length : (entries counts : List ℕ) (n : ℕ) → length (pairs_to entries counts n) ≡ 4 * n
@@ -34,61 +22,36 @@ pairs_length entries counts (suc n) =
     let before = pairs_length entries counts n in
     omega (arith, before, length-append (pairs_to entries counts n) (two_bytes (get_or entries n 0) ++ two_bytes (get_or counts n 0)))
 
-pub record Laying (s : Bytes) (entries counts : List ℕ) (count : ℕ) (out : Bytes) (at i : ℕ) : Type 0 where
-  pub few : count ≤ 1792
-  pub entries_wide : length entries ≡ 1792
-  pub counts_wide : length counts ≡ 1792
-  pub room : 4 * count ≤ length s
-  pub within : i ≤ count
-  pub same : length out ≡ length s
-  pub put : Put s 0 (pairs_to entries counts i) at out
+-- the two of an entry and the two of a count
+abbrev pub pair_at : List ℕ → List ℕ → ℕ → Bytes
+pair_at entries counts i = two_bytes (get_or entries i 0) ++ two_bytes (get_or counts i 0)
 
-pub laying_start :
-    (s : Bytes) (entries counts : List ℕ) (count : ℕ) → count ≤ 1792 → length entries ≡ 1792 → length counts ≡ 1792 → 4 * count ≤ length s →
-    Laying s entries counts count s 0 0
-laying_start s entries counts count few e c room =
-    record { few = few; entries_wide = e; counts_wide = c; room = room; within = omega arith; same = refl; put = put_nothing s 0 [] refl }
+pub pairs_more : (entries counts : List ℕ) (i : ℕ) → pairs_to entries counts (i + 1) ≡ pairs_to entries counts i ++ pair_at entries counts i
+pairs_more entries counts i = ap (pairs_to entries counts) (add-one i)
 
-module _ (s : Bytes) (entries counts : List ℕ) (count : ℕ) (out : Bytes) (at i : ℕ) (k : Laying s entries counts count out at i) where
-  pub laying_done : count ≤ i → Put s 0 (pairs_to entries counts count) at out
-  laying_done end =
-      let all : i ≡ count = omega (arith, k.within) in
-      subst (λ (n : ℕ). Put s 0 (pairs_to entries counts n) at out) all k.put
+-- those of d values from value i on
+pairs_from : List ℕ → List ℕ → ℕ → ℕ → Bytes
+pairs_from entries counts i zero = []
+pairs_from entries counts i (suc d) = pairs_from entries counts i d ++ pair_at entries counts (i + d)
 
-  module _ (more : i < count) where
-    pub value_there : i < 1792
-    value_there = omega (arith, k.few)
+pairs_split : (entries counts : List ℕ) (i d : ℕ) → pairs_to entries counts (i + d) ≡ pairs_to entries counts i ++ pairs_from entries counts i d
+unfolding pairs_from
+pairs_split entries counts i zero = rw (add-zero i) (sym (append-nil (pairs_to entries counts i)))
+pairs_split entries counts i (suc d) =
+    rw (add-suc i d, pairs_split entries counts i d) (append_assoc (pairs_to entries counts i) (pairs_from entries counts i d) (pair_at entries counts (i + d)))
 
-    at_is : at ≡ 4 * i
-    at_is = omega (arith, k.put.place, pairs_length entries counts i)
+-- those after value i
+pub pairs_after : List ℕ → List ℕ → ℕ → ℕ → Bytes
+pairs_after entries counts i count = pairs_from entries counts (i + 1) (count - (i + 1))
 
-    pub entry_room : at + 2 ≤ length out
-    entry_room = omega (arith, at_is, k.room, k.same)
-
-    module _ (next : ℕ) (out1 : Bytes) (first : Put out at (two_bytes (get_or entries i 0)) next out1) (same1 : length out1 ≡ length out) where
-      pub count_room : next + 2 ≤ length out1
-      count_room = omega (arith, first.place, at_is, k.room, k.same, same1)
-
-      pub laying_more :
-          (r : ℕ) (out2 : Bytes) → Put out1 next (two_bytes (get_or counts i 0)) r out2 → length out2 ≡ length out1 → Laying s entries counts count out2 r (i + 1)
-      laying_more r out2 second same2 =
-          let four : Bytes = two_bytes (get_or entries i 0) ++ two_bytes (get_or counts i 0) in
-          let both : Put out at four r out2 =
-          put_both out at (two_bytes (get_or entries i 0)) (two_bytes (get_or counts i 0)) four (omega (arith, at_is, k.room, k.same)) refl next out1 first r out2 second in
-          let long : 0 + length (pairs_to entries counts (suc i)) ≤ length s = omega (arith, pairs_length entries counts (suc i), k.room) in
-          record {
-            few = k.few;
-            entries_wide = k.entries_wide;
-            counts_wide = k.counts_wide;
-            room = k.room;
-            within = omega arith;
-            same = same2 ∙ same1 ∙ k.same;
-            put =
-                subst (λ (n : ℕ). Put s 0 (pairs_to entries counts n) r out2) (sym (add-one i))
-                (put_both s 0 (pairs_to entries counts i) four (pairs_to entries counts (suc i)) long refl at out k.put r out2 both);
-          }
-
-pub ruleset laying_laws = (rules, laying_start, laying_done, value_there, entry_room, count_room, laying_more)
+pub pairs_next :
+    (entries counts : List ℕ) (i count : ℕ) → i < count →
+    pairs_to entries counts count ≡ pairs_to entries counts i ++ (pair_at entries counts i ++ pairs_after entries counts i count)
+unfolding pairs_after
+pairs_next entries counts i count l =
+    let whole : count ≡ i + 1 + (count - (i + 1)) = omega arith in
+    ap (pairs_to entries counts) whole ∙ pairs_split entries counts (i + 1) (count - (i + 1))
+    ∙ rw (pairs_more entries counts i) (append_assoc (pairs_to entries counts i) (pair_at entries counts i) (pairs_from entries counts (i + 1) (count - (i + 1))))
 
 -- ---- the bytes of entries and counts that are those of the lines
 module _ (lines : List Line) where

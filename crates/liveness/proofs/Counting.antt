@@ -17,6 +17,7 @@ use Rattle.model.specs.declared.Kind.{Kind}
 use Rattle.model.specs.declared.Line.{Line}
 use Rattle.model.specs.Files.{kind_at, is_ciphertext}
 use Rattle.model.proofs.Tests.{below_or_not}
+use Rattle.tables.specs.declared.Record.{Record}
 use Rattle.tables.specs.Records.{lines_held, IsSchedule}
 use Rattle.tables.proofs.Beside.{none_most}
 use Rattle.liveness.specs.Live.{entry_of, one_if, how_many, live_after}
@@ -69,7 +70,7 @@ pub ruleset begin_laws = (rules, one_more_live, none_more_live, one_more_ends, n
 abbrev ends_with : List Line → ℕ → ℕ → Bool
 ends_with lines j v = starts_live lines v (entry_of lines v) && eqb (entry_of lines v) j
 
-pub record Counting (records : List (List ℕ)) (count : ℕ) (entries counts ends : List ℕ) (live i : ℕ) : Type 0 where
+pub record Counting (records : List Record) (count : ℕ) (entries counts ends : List ℕ) (live i : ℕ) : Type 0 where
   pub table : IsSchedule records count
   pub has : HasEntries (lines_held records count) entries
   pub few : count ≤ 1792
@@ -82,7 +83,7 @@ pub record Counting (records : List (List ℕ)) (count : ℕ) (entries counts en
   pub known : (l : ℕ) → l < i → get_or counts l 0 ≡ live_after (lines_held records count) l
 
 pub counting_start :
-    (records : List (List ℕ)) (count : ℕ) (entries counts : List ℕ) → IsSchedule records count → HasEntries (lines_held records count) entries →
+    (records : List Record) (count : ℕ) (entries counts : List ℕ) → IsSchedule records count → HasEntries (lines_held records count) entries →
     length counts ≡ 1792 → Counting records count entries counts (replicate 1792 0) 0 0
 counting_start records count entries counts t has wide =
     record {
@@ -99,7 +100,7 @@ counting_start records count entries counts t has wide =
     }
 
 module _
-    (records : List (List ℕ)) (count : ℕ) (entries counts ends : List ℕ) (live i : ℕ) (k : Counting records count entries counts ends live i) where
+    (records : List Record) (count : ℕ) (entries counts ends : List ℕ) (live i : ℕ) (k : Counting records count entries counts ends live i) where
   abbrev lines : List Line
   lines = lines_held records count
 

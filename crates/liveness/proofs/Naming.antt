@@ -22,6 +22,7 @@ use Rattle.model.proofs.Tests.{and_first, and_second, below_or_not}
 use Rattle.operands.specs.declared.OperandsOf.{OperandsOf}
 use Rattle.operands.specs.declared.OperandsOf.TheVariants.{One, Two}
 use Rattle.operands.specs.Operands.{operands_in}
+use Rattle.tables.specs.declared.Record.{Record}
 use Rattle.tables.specs.Records.{lines_of, lines_held, IsSchedule}
 use Rattle.tables.proofs.HeldLines.{formed_few, formed_long, records_long}
 use Rattle.liveness.specs.Live.{is_among, names, entry_of}
@@ -73,7 +74,7 @@ module _ (entries : List ℕ) (w : OperandsOf) (i : ℕ) where
 pub ruleset name_laws = (rules, one_place, first_place, second_place, one_named, two_named)
 
 -- ---- a table of a schedule
-module _ (records : List (List ℕ)) (count : ℕ) (t : IsSchedule records count) where
+module _ (records : List Record) (count : ℕ) (t : IsSchedule records count) where
   pub table_few : count ≤ 1792
   table_few = formed_few Schedule t.header records count t.formed
 
@@ -87,17 +88,17 @@ module _ (records : List (List ℕ)) (count : ℕ) (t : IsSchedule records count
   table_earlier = names_earlier t.header (lines_held records count) t.formed.lines
 
 -- ---- the loop
-pub record Naming (records : List (List ℕ)) (count : ℕ) (entries : List ℕ) (i : ℕ) : Type 0 where
+pub record Naming (records : List Record) (count : ℕ) (entries : List ℕ) (i : ℕ) : Type 0 where
   pub table : IsSchedule records count
   pub few : count ≤ 1792
   pub wide : length entries ≡ 1792
   pub within : i ≤ count
   pub known : (v : ℕ) → v < i → get_or entries v 0 ≡ entry_of (take i (lines_held records count)) v
 
-pub naming_start : (records : List (List ℕ)) (count : ℕ) (entries : List ℕ) → IsSchedule records count → length entries ≡ 1792 → Naming records count entries 0
+pub naming_start : (records : List Record) (count : ℕ) (entries : List ℕ) → IsSchedule records count → length entries ≡ 1792 → Naming records count entries 0
 naming_start records count entries t wide = record { table = t; few = table_few records count t; wide = wide; within = omega arith; known = λ v l. absurd (omega arith) }
 
-module _ (records : List (List ℕ)) (count : ℕ) (entries : List ℕ) (i : ℕ) (k : Naming records count entries i) where
+module _ (records : List Record) (count : ℕ) (entries : List ℕ) (i : ℕ) (k : Naming records count entries i) where
   abbrev lines : List Line
   lines = lines_held records count
 

@@ -4,24 +4,30 @@ use native.Mathlib.Omega.{arith}
 use mathlib.Core.Path.{◌≡◌, refl, sym, ap, ◌∙◌, subst}
 use mathlib.Core.Bool.{Bool, true, false, cond}
 use mathlib.Core.List.{List}
-use mathlib.Core.Logic.{inl, inr, ⊎_elim}
+use mathlib.Core.Logic.{◌⊎◌, inl, inr, ⊎_elim}
 use borrow.Author.Rules.{rules}
 use borrow.Author.Tests.{ltb-true, ltb-false}
 use lib.Dec.{ltb}
 use lib.ListN.{length, get_or}
+use Rattle.std.specs.Prelude.{max}
 use Rattle.model.specs.declared.Line.{Line}
 use Rattle.model.proofs.Tests.{below_or_not}
 use Rattle.liveness.specs.Live.{live_after, IsPeak}
-use Rattle.liveness.specs.Kept.{HasCounts, IsLarger, IsLargest, largest_to, peak_of}
+use Rattle.liveness.specs.Kept.{HasCounts, IsLargest, largest_to, peak_of}
 use Rattle.liveness.proofs.Scans.{no_is_live}
 
-pub second_larger : (a b : ℕ) → a < b → IsLarger a b b
-second_larger a b l = record { first = omega arith; second = omega arith; one_of = inr refl }
+-- the larger of two numbers
+record IsLarger (a b most : ℕ) : Type 0 where
+  pub first : a ≤ most
+  pub second : b ≤ most
+  pub one_of : (most ≡ a) ⊎ (most ≡ b)
 
-pub first_larger : (a b : ℕ) → b ≤ a → IsLarger a b a
-first_larger a b l = record { first = omega arith; second = omega arith; one_of = inl refl }
-
-pub ruleset larger_laws = (rules, second_larger, first_larger)
+larger_is : (a b most : ℕ) → most ≡ max a b → IsLarger a b most
+larger_is a b most e = record { first = omega (arith, e); second = omega (arith, e); one_of = go (below_or_not a b) }
+  where
+    go : (a < b) ⊎ (b ≤ a) → (most ≡ a) ⊎ (most ≡ b)
+    go (inl l) = inr (omega (arith, e))
+    go (inr l) = inl (omega (arith, e))
 
 -- the loop's invariant
 pub record Finding (numbers : List ℕ) (count most i : ℕ) : Type 0 where
@@ -48,10 +54,13 @@ module _ (numbers : List ℕ) (count most i : ℕ) (k : Finding numbers count mo
   pub number_there : i < count → i < 1792
   number_there more = omega (arith, k.few)
 
-  pub finding_more : (next : ℕ) → i < count → IsLarger most (get_or numbers i 0) next → Finding numbers count next (i + 1)
-  finding_more next more larger =
+  pub finding_more : (next : ℕ) → i < count → next ≡ max most (get_or numbers i 0) → Finding numbers count next (i + 1)
+  finding_more next more is_max =
       record { few = k.few; wide = k.wide; within = omega arith; so_far = ⊎_elim kept taken larger.one_of }
     where
+      larger : IsLarger most (get_or numbers i 0) next
+      larger = larger_is most (get_or numbers i 0) next is_max
+
       up_to : (j : ℕ) → j < i + 1 → get_or numbers j 0 ≤ next
       up_to j l =
           ⊎_elim (λ before. let p = k.so_far.none_more j before in omega (arith, p, larger.first))

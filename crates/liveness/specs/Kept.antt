@@ -1,8 +1,9 @@
 -- What the code keeps beside a table of a schedule's lines. No promise of a service rests on this.
-use Rattle.std.specs.Prelude.{ℕ, zero, suc, ◌≤◌, ◌<◌, Bool, cond, ◌&&◌, List, [], ◌∷◌, ◌++◌, ◌≡◌, ◌⊎◌, ltb, length, get_or, set}
+use Rattle.std.specs.Prelude.{ℕ, zero, suc, ◌≤◌, ◌<◌, Bool, cond, ◌&&◌, List, [], ◌∷◌, ◌++◌, ◌≡◌, ltb, length, get_or, set}
 use Rattle.model.specs.declared.Line.{Line}
 use Rattle.model.specs.Files.{kind_at, is_ciphertext}
 use Rattle.fields.specs.Pieces.{Bytes}
+use Rattle.liveness.specs.declared.Liveness.{Liveness}
 use Rattle.liveness.specs.Live.{entry_of, live_after, two_bytes}
 
 -- the array with this number at each of these places
@@ -25,15 +26,14 @@ pub record HasCounts (lines : List Line) (counts : List ℕ) : Type 0 where
   pub wide : length counts ≡ 1792
   pub count_is : (l : ℕ) → l < length lines → get_or counts l 0 ≡ live_after lines l
 
+-- both
+pub record IsLiveness (lines : List Line) (live : Liveness) : Type 0 where
+  pub entries : HasEntries lines live.entries
+  pub counts : HasCounts lines live.counts
+
 -- whether value v is live after its own line: a ciphertext that a later line names, where this is its entry
 abbrev pub starts_live : List Line → ℕ → ℕ → Bool
 starts_live lines v entry = is_ciphertext (kind_at lines v) && ltb v entry
-
--- the larger of two numbers
-pub record IsLarger (a b most : ℕ) : Type 0 where
-  pub first : a ≤ most
-  pub second : b ≤ most
-  pub one_of : (most ≡ a) ⊎ (most ≡ b)
 
 -- the largest of the first numbers of an array, 0 where there is none
 pub record IsLargest (numbers : List ℕ) (count most : ℕ) : Type 0 where

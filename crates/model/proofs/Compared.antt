@@ -1,5 +1,6 @@
 -- The service's check answers Done exactly for the schedules that pass: one header, the circuit's lines after erasing, and the rules.
 -- Assumes nothing.
+use Rattle.std.specs.Prelude.{Option, Some, None}
 use Prim.Native.Nat.{ℕ, zero, suc, ◌+◌}
 use native.Mathlib.Omega.{arith}
 use mathlib.Core.Path.{◌≡◌, refl, sym, ap, ap₂, ◌∙◌, subst}
@@ -11,8 +12,6 @@ use lib.ListN.{length, take}
 use lib.IntN.{ℤ, pos, negsuc}
 use Rattle.ints.specs.Parts.{positive, negative}
 use Rattle.model.specs.declared.Header.{Header}
-use Rattle.model.specs.declared.Headroom.{Headroom}
-use Rattle.model.specs.declared.Headroom.TheVariants.{None, Given}
 use Rattle.model.specs.declared.Line.{Line}
 use Rattle.model.specs.declared.Grammar.TheVariants.{Circuit, Schedule}
 use Rattle.model.specs.declared.Answer.{Answer}
@@ -79,15 +78,15 @@ line_same x =
 
 -- ---- headers
 header_from : List ℤ → Header
-header_from ns = record { factor = nth ns 0; waterline = nth ns 1; top = nth ns 2; headroom = cond (leb (length ns) 3) None (Given (nth ns 3)) }
+header_from ns = record { factor = nth ns 0; waterline = nth ns 1; top = nth ns 2; headroom = cond (leb (length ns) 3) None (Some (nth ns 3)) }
 
 header_back : (h : Header) → header_from (header_numbers h) ≡ h
 unfolding header_from
 header_back h = go h.headroom refl
   where
-    go : (given : Headroom) → h.headroom ≡ given → header_from (header_numbers h) ≡ h
+    go : (given : Option ℕ) → h.headroom ≡ given → header_from (header_numbers h) ≡ h
     go None e = rw e
-    go (Given bits) e = rw e
+    go (Some bits) e = rw e
 
 pub same_header_lem : (h k : Header) → T (same_header h k) → h ≡ k
 same_header_lem h k t = sym (header_back h) ∙ ap header_from (same_numbers_lem (header_numbers h) (header_numbers k) t) ∙ header_back k

@@ -1,4 +1,5 @@
 -- Tests as facts: what a test that passed says, and what makes it pass. Assumes nothing.
+use Rattle.std.specs.Prelude.{Option, Some, None}
 use Prim.Native.Nat.{ℕ, ◌<◌, ◌≤◌}
 use native.Mathlib.Decide.{dec_lt}
 use native.Mathlib.Omega.{arith}
@@ -8,8 +9,6 @@ use mathlib.Core.Bool.{Bool, ◌&&◌}
 use mathlib.Core.List.{List, [], ◌∷◌}
 use lib.Dec.{T, leb, eqb, leb→le, le→leb, eqb_refl}
 use Rattle.model.specs.declared.Header.{Header}
-use Rattle.model.specs.declared.Headroom.{Headroom}
-use Rattle.model.specs.declared.Headroom.TheVariants.{None, Given}
 use Rattle.model.specs.declared.Kind.{Kind}
 use Rattle.model.specs.declared.Kind.TheVariants.{Ciphertext, Constant, Encoded, Nothing}
 use Rattle.rows.specs.Fields.{ranged, within, all_in_range}
@@ -50,20 +49,20 @@ pub within_passes : (low high n : ℕ) → Within low high n → T (within low h
 within_passes low high n w = and_both (leb low n) (leb n high) (le→leb low n w.least) (le→leb n high w.most)
 
 -- the headroom's range, where it is given
-abbrev headroom_passes : Headroom → Bool
+abbrev headroom_passes : Option ℕ → Bool
 headroom_passes given = all_in_range 0 (ranged 1 60 ∷ []) (headroom_numbers given)
 
-abbrev pub HeadroomFacts : Headroom → Type 0
+abbrev pub HeadroomFacts : Option ℕ → Type 0
 HeadroomFacts None = Unit {0}
-HeadroomFacts (Given bits) = Within 1 60 bits
+HeadroomFacts (Some bits) = Within 1 60 bits
 
-headroom_facts : (given : Headroom) → T (headroom_passes given) → HeadroomFacts given
+headroom_facts : (given : Option ℕ) → T (headroom_passes given) → HeadroomFacts given
 headroom_facts None t = tt
-headroom_facts (Given bits) t = within_facts 1 60 bits t
+headroom_facts (Some bits) t = within_facts 1 60 bits t
 
-headroom_passes_lem : (given : Headroom) → HeadroomFacts given → T (headroom_passes given)
+headroom_passes_lem : (given : Option ℕ) → HeadroomFacts given → T (headroom_passes given)
 headroom_passes_lem None f = tt
-headroom_passes_lem (Given bits) f = within_passes 1 60 bits f
+headroom_passes_lem (Some bits) f = within_passes 1 60 bits f
 
 pub record HeaderFacts (h : Header) : Type 0 where
   pub factor : Within 1 60 h.factor

@@ -1,10 +1,9 @@
 -- The demands' own terms: when there is a schedule at all, and what "exact" means; and between them those of document 02, Job 6: the reserve
 -- that a line has, and the greatest. Words marked "Demand" are the user's demands', the others document 01's where no other is named.
-use Rattle.std.specs.Prelude.{ℕ, ◌-◌, ◌/◌, ◌^◌, ◌<◌, ◌≡◌, Bool, true, not, ◌&&◌, ◌||◌, List, [], ◌∷◌, T, ltb, length, get_or, ℤ, nat_abs, ◌≤ℤ◌}
+use Rattle.std.specs.Prelude.{ℕ, ◌-◌, ◌/◌, ◌^◌, ◌<◌, ◌≡◌, Bool, true, not, ◌&&◌, ◌||◌, List, [], ◌∷◌, T, ltb, length, get_or, ℤ, nat_abs, ◌≤ℤ◌, Some}
 use Rattle.std.proofs.Math.Option.{some}
 use Rattle.std.proofs.Math.ListN.{get_elem?}
 use Rattle.model.specs.declared.Header.{Header}
-use Rattle.model.specs.declared.Headroom.TheVariants.{Given}
 use Rattle.model.specs.declared.Line.{Line}
 use Rattle.model.specs.declared.Line.TheVariants.{Free}
 use Rattle.model.specs.declared.Grammar.TheVariants.{Schedule}
@@ -86,7 +85,7 @@ pub record ExactLine (n : ℕ) (h : Header) (schedule : List Line) (held : List 
   pub exact : get_elem? held line ≡ some (scaled scale level (times_two_to scale vector))
   -- Document 02, Job 3: "where H is given, a circuit line other than a bare constant whose circuit numbers are" small "holds in the scale
   -- machine only numbers" below half
-  pub below_half_modulus : (bits : ℕ) → h.headroom ≡ Given bits → T (are_small bits vector) → T (below_half h level (times_two_to scale vector))
+  pub below_half_modulus : (bits : ℕ) → h.headroom ≡ Some bits → T (are_small bits vector) → T (below_half h level (times_two_to scale vector))
 
 -- Demand 3: "whatever whole numbers its inputs and constants are, the scale machine runs all its lines with no mismatch and no scale above
 -- the modulus or below the waterline; each circuit line but a bare constant then holds exactly the circuit's own numbers".

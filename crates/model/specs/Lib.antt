@@ -14,3 +14,4 @@ pub mod Demands
 pub mod Numbering
 pub mod Answers
 pub mod Worked
+pub mod Refusals

@@ -1,7 +1,8 @@
 -- Small files, as cases of one table: the two machines, to the end and each way in which the scale machine can stop on a well-formed
 -- schedule; best reserves and plans that pin the clauses of "The plan" one by one; constant numbers on both sides of their limit; and the
 -- headroom. Document 01's own cases are rows of the services' table, on whole files.
-use Rattle.std.specs.Prelude.{ℕ, ◌+◌, refl, Bool, true, false, ◌&&◌, List, [], ◌∷◌, ◌++◌, map, get_or, ℤ, pos, negsuc, ◌-ℤ◌}
+use Rattle.std.specs.Prelude as Std
+use Rattle.std.specs.Prelude.{ℕ, ◌+◌, refl, Bool, true, false, ◌&&◌, List, [], ◌∷◌, ◌++◌, map, get_or, ℤ, pos, negsuc, ◌-ℤ◌, Some, None}
 use Rattle.std.proofs.Math.Option.{Option, none, some}
 use Rattle.std.proofs.Common.{lit≤}
 use Rattle.rows.specs.Rows.{Judgement, good, bad, judged}
@@ -9,8 +10,6 @@ use Rattle.model.specs.declared.Answer.{Answer}
 use Rattle.model.specs.declared.Answer.TheVariants.{Done, Level, Refused}
 use Rattle.model.specs.declared.Best.{Best}
 use Rattle.model.specs.declared.Best.TheVariants as Bests
-use Rattle.model.specs.declared.Headroom.{Headroom}
-use Rattle.model.specs.declared.Headroom.TheVariants.{None, Given}
 use Rattle.model.specs.declared.Line.{Line}
 use Rattle.model.specs.declared.Line.TheVariants.{In, Const, Neg, Rot, Add, Mul, Out, Enc, Rs, Ms, Us}
 use Rattle.model.specs.declared.Grammar.{Grammar}
@@ -96,7 +95,7 @@ all_formed [] = true
 all_formed (c ∷ cs) = input_formed c && all_formed cs
 
 -- F, W, L and H, and the lines
-abbrev pub under_header : ℕ → ℕ → ℕ → Headroom → List Line → File
+abbrev pub under_header : ℕ → ℕ → ℕ → Std.Option ℕ → List Line → File
 under_header f w l headroom lines = record { header = record { factor = f; waterline = w; top = l; headroom = headroom }; lines = lines }
 
 abbrev pub under : ℕ → ℕ → ℕ → List Line → File
@@ -184,8 +183,8 @@ reserve_cases =
     -- `neg`, `rot` and `out`: the operand's
     ∷ with_reserves 2 (In ∷ Mul 0 0 ∷ Neg 1 ∷ Rot 1 (pos 3) ∷ Out 1 ∷ []) (bits 100 ∷ bits 80 ∷ bits 80 ∷ bits 80 ∷ bits 80 ∷ [])
     -- H takes nothing from a reserve, and a best reserve below it is 6
-    ∷ case (under_header 60 20 1 (Given 20) (In ∷ Mul 0 0 ∷ [])) weighs (reserves (finished (bits 40 ∷ bits 20 ∷ [])))
-    ∷ case (under_header 60 20 1 (Given 21) (In ∷ Mul 0 0 ∷ [])) weighs (reserves (stopped 1 6))
+    ∷ case (under_header 60 20 1 (Some 20) (In ∷ Mul 0 0 ∷ [])) weighs (reserves (finished (bits 40 ∷ bits 20 ∷ [])))
+    ∷ case (under_header 60 20 1 (Some 21) (In ∷ Mul 0 0 ∷ [])) weighs (reserves (stopped 1 6))
     ∷ []
 
 -- which lines are ciphertext lines, for each word
@@ -246,7 +245,7 @@ constant_cases =
 -- ---- Document 02, Job 3
 -- F = 60, W = 20, H given
 abbrev pub leaving : ℕ → ℕ → List Line → File
-leaving l bits lines = under_header 60 20 l (Given bits) lines
+leaving l bits lines = under_header 60 20 l (Some bits) lines
 
 -- a circuit's plan with H has the lines of the plan without
 abbrev pub same_plan : ℕ → ℕ → List Line → List Line → Case
@@ -294,7 +293,7 @@ headroom_plans =
     ∷ case (leaving 1 41 (In ∷ Mul 0 0 ∷ Mul 1 1 ∷ [])) seeks (answering (Level 3))
     -- in 60 − 60 = 0 @ 60: no level leaves one bit
     ∷ case (under 1 60 1 (In ∷ [])) seeks (answering (Level 60))
-    ∷ case (under_header 1 60 1 (Given 1) (In ∷ [])) seeks (answering (Refused 6 2))
+    ∷ case (under_header 1 60 1 (Some 1) (In ∷ [])) seeks (answering (Refused 6 2))
     ∷ []
 
 -- whether the scale machine holds only numbers below half of its modulus in this line of a schedule

@@ -1,25 +1,73 @@
 // The types that document 01's definitions and the code share. What they mean stands in specs/.
 #![tactic(auto)]
 
-// The header's fourth number, "bits of size with the sign", where it is given.
-#[derive(Clone, Copy)]
-pub enum Headroom {
-    None,
-    Given(u32),
+ghost use Rattle.std.specs.Prelude.{◌≡◌};
+ghost use Rattle.model.specs.Refusals.{number_of};
+
+// Why a file is refused, in the order of document 01's numbers.
+#[derive(Clone, Copy, PartialEq, Eq)]
+pub enum Fault {
+    NotOfForm,
+    HeaderOutOfRange,
+    TooManyLines,
+    NoUsableLine,
+    WrongKind,
+    TooFewLevels,
+    LevelsDiffer,
+    ScalesDiffer,
+    AboveModulus,
+    BelowWaterline,
+    NumberOutOfRange,
+    AnotherCircuit,
+    BufferTooShort,
+    TooHighForDownscale,
+}
+
+impl Fault {
+    // Its number for a host.
+    pub fn number(self) -> u32
+        ensures { result ≡ number_of self }
+    {
+        match self {
+            Fault::NotOfForm => 1,
+            Fault::HeaderOutOfRange => 2,
+            Fault::TooManyLines => 3,
+            Fault::NoUsableLine => 4,
+            Fault::WrongKind => 5,
+            Fault::TooFewLevels => 6,
+            Fault::LevelsDiffer => 7,
+            Fault::ScalesDiffer => 8,
+            Fault::AboveModulus => 9,
+            Fault::BelowWaterline => 10,
+            Fault::NumberOutOfRange => 11,
+            Fault::AnotherCircuit => 12,
+            Fault::BufferTooShort => 13,
+            Fault::TooHighForDownscale => 14,
+        }
+    }
+}
+
+// A refusal: why, and the text line that caused it, 0 where no line did.
+#[derive(Clone, Copy, PartialEq, Eq)]
+pub struct Refusal {
+    pub fault: Fault,
+    pub place: u32,
 }
 
 // "F is the rescale factor, W the waterline, L the top level", and H: one value, so that "however F, W and L reach each line now, it travels with them".
-#[derive(Clone, Copy)]
+#[derive(Clone, Copy, PartialEq, Eq)]
 pub struct Header {
     pub factor: u32,
     pub waterline: u32,
     pub top: u32,
-    pub headroom: Headroom,
+    // The fourth number, "bits of size with the sign", where it is given.
+    pub headroom: Option<u32>,
 }
 
-// The words of document 01's lines, and no word of them.
-#[derive(Clone, Copy)]
+// No word, and the words of document 01's lines. No word is a case, since `Words.entry` is over it.
+#[derive(Clone, Copy, PartialEq, Eq)]
 pub enum Word {
+    NoWord,
     In,
     Const,
     Neg,
@@ -31,12 +79,11 @@ pub enum Word {
     Rs,
     Ms,
     Us,
-    NoWord,
 }
 
 // A line by its word; operands are value numbers. Of a line that is read a constant number has at most 32 bits and no other number more than 16;
-// definitions have whole numbers of any size in their place. Free is no line: a record that holds none.
-#[derive(Clone, Copy)]
+// definitions have whole numbers of any size in their place. Free is no line: a record that holds none, a case since `Tables.RestFree` is over it.
+#[derive(Clone, Copy, PartialEq, Eq)]
 pub enum Line {
     In,
     Const(u32),
@@ -53,14 +100,14 @@ pub enum Line {
 }
 
 // The two files of document 01.
-#[derive(Clone, Copy)]
+#[derive(Clone, Copy, PartialEq, Eq)]
 pub enum Grammar {
     Circuit,
     Schedule,
 }
 
-// What a value can be used as. An `out` line and a free record are Nothing.
-#[derive(Clone, Copy)]
+// What a value can be used as. An `out` line and a free record are Nothing, a case since `Files.kind_at` gives it.
+#[derive(Clone, Copy, PartialEq, Eq)]
 pub enum Kind {
     Ciphertext,
     Constant,
@@ -78,7 +125,7 @@ pub struct Choice {
     pub reserve: i32,
 }
 
-// What the plan knows of a circuit line: a bare constant, or a ciphertext and how it is done.
+// What the plan knows of a circuit line: a bare constant, or a ciphertext and how it is done. No Option: the definitions of the plan have these two words.
 #[derive(Clone, Copy)]
 pub enum Best {
     Constant,

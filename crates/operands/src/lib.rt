@@ -1,13 +1,12 @@
-// The values that a line names, and the line with others; the same of a record, by its word's number.
+// The values that a line names, and the line with others; the same of a record.
 #![tactic(auto)]
 
-ghost use Rattle.std.specs.Prelude.{◌≡◌, T};
-ghost use Rattle.model.specs.declared.Grammar.TheVariants.{Schedule};
-ghost use Rattle.model.specs.Files.{operands, is_word};
+ghost use Rattle.std.specs.Prelude.{◌≡◌};
+ghost use Rattle.model.specs.Files.{operands};
 ghost use Rattle.tables.specs.Records.{line_of};
 ghost use Rattle.operands.specs.Operands.{operands_in, first_operand, second_operand, with_operands};
 
-use model::Line;
+use model::{Line, Word};
 use tables::Record;
 
 // ---- a line
@@ -39,6 +38,7 @@ pub fn operands_of(line: Line) -> OperandsOf
 }
 
 // The first value that a line names, 0 where it names none.
+#[tactic(auto, unfolding(crate::specs::Operands::first_operand))]
 pub fn first_operand(line: Line) -> u16
     ensures { result ≡ first_operand line }
 {
@@ -50,6 +50,7 @@ pub fn first_operand(line: Line) -> u16
 }
 
 // The second value that a line names, 0 where it names none.
+#[tactic(auto, unfolding(crate::specs::Operands::second_operand))]
 pub fn second_operand(line: Line) -> u16
     ensures { result ≡ second_operand line }
 {
@@ -85,38 +86,36 @@ pub fn with_operands(line: Line, first: u16, second: u16) -> Line
 }
 
 // ---- a record
-// The first value that the line of a record names, 0 where it names none: `in` and `const` have the lowest numbers.
+// The first value that the line of a record names, 0 where it names none.
+#[tactic(auto, unfolding(tables::specs::Records::line_of, crate::specs::Operands::first_operand))]
 pub fn first_of(r: Record) -> u16
-    requires { T (is_word Schedule (line_of r)) }
     ensures { result ≡ first_operand (line_of r) }
 {
-    if r[0] <= 2 {
-        return 0;
+    match r.word {
+        Word::NoWord | Word::In | Word::Const => 0,
+        _ => r.first,
     }
-    r[1]
 }
 
 // The second value that it names, 0 where it names none.
+#[tactic(auto, unfolding(tables::specs::Records::line_of, crate::specs::Operands::second_operand))]
 pub fn second_of(r: Record) -> u16
     ensures { result ≡ second_operand (line_of r) }
 {
-    match r[0] {
-        5 => r[2],
-        6 => r[2],
+    match r.word {
+        Word::Add | Word::Mul => r.second,
         _ => 0,
     }
 }
 
 // The record of the line that names these values instead.
+#[tactic(auto, unfolding(tables::specs::Records::line_of))]
 pub fn renamed(r: Record, first: u16, second: u16) -> Record
     ensures { line_of result ≡ with_operands (line_of r) first second }
 {
-    match r[0] {
-        0 => r,
-        1 => r,
-        2 => r,
-        5 => [5, first, second, 0],
-        6 => [6, first, second, 0],
-        _ => [r[0], first, r[2], r[3]],
+    match r.word {
+        Word::NoWord | Word::In | Word::Const => r,
+        Word::Add | Word::Mul => Record { first, second, ..r },
+        _ => Record { first, ..r },
     }
 }

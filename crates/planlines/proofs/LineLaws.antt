@@ -12,6 +12,7 @@ use Rattle.model.specs.declared.Line.{Line}
 use Rattle.model.specs.declared.Choice.{Choice}
 use Rattle.model.specs.Plan.{Draft, emit}
 use Rattle.operands.specs.Operands.{with_operands}
+use Rattle.tables.specs.declared.Record.{Record}
 use Rattle.tables.specs.Records.{lines_held}
 use Rattle.conversions.specs.declared.Drafted.{Drafted}
 use Rattle.conversions.specs.declared.Operand.{Operand}
@@ -20,10 +21,10 @@ use Rattle.conversions.specs.Operands.{supplied, Reaches}
 use Rattle.conversions.proofs.PutLaws.{reading, read_same}
 use Rattle.planlines.specs.Lines.{with_one, with_two}
 
-module _ (h : Header) (p : Choice) (x : Line) (a : Operand) (s : SFits w32 p.first) (records one : List (List ℕ)) (count : ℕ) (d : Drafted)
+module _ (h : Header) (p : Choice) (x : Line) (a : Operand) (s : SFits w32 p.first) (records one : List Record) (count : ℕ) (d : Drafted)
     (u : Wrote (supplied h a (reading p.first) p.level (lines_held records count)) (count + 3) d one) where
   pub one_planned :
-      (y : Line) → y ≡ with_operands x d.number 0 → (after : List (List ℕ)) (e : Drafted) → Wrote (emit (lines_held one d.count) y) (d.count + 1) e after →
+      (y : Line) → y ≡ with_operands x d.number 0 → (after : List Record) (e : Drafted) → Wrote (emit (lines_held one d.count) y) (d.count + 1) e after →
       Wrote (with_one h p x a (lines_held records count)) (count + 4) e after
   unfolding with_one
   one_planned y is after e w =
@@ -33,10 +34,10 @@ module _ (h : Header) (p : Choice) (x : Line) (a : Operand) (s : SFits w32 p.fir
         long = w.long;
       }
 
-  module _ (b : Operand) (t : SFits w32 p.second) (two : List (List ℕ)) (g : Drafted)
+  module _ (b : Operand) (t : SFits w32 p.second) (two : List Record) (g : Drafted)
       (v : Wrote (supplied h b (reading p.second) p.level (lines_held one d.count)) (d.count + 3) g two) where
     pub two_planned :
-        (y : Line) → y ≡ with_operands x d.number g.number → (after : List (List ℕ)) (e : Drafted) → Wrote (emit (lines_held two g.count) y) (g.count + 1) e after →
+        (y : Line) → y ≡ with_operands x d.number g.number → (after : List Record) (e : Drafted) → Wrote (emit (lines_held two g.count) y) (g.count + 1) e after →
         Wrote (with_two h p x a b (lines_held records count)) (count + 7) e after
     unfolding with_two
     two_planned y is after e w =

@@ -38,6 +38,7 @@ use Rattle.conversions.specs.Operands.{best_of, supplied, Reaches}
 use Rattle.linechoices.specs.Steps.{step_on}
 use Rattle.linechoices.proofs.WordLaws.{neg_step, rot_step, add_step, mul_step, out_step}
 use Rattle.planlines.specs.Lines.{line_on, with_one, with_two, Plannable, DoneAs}
+use Rattle.tables.specs.declared.Record.{Record}
 
 -- ---- what the words ask of their operands
 module _ (h : Header) (H : HeaderFacts h) where
@@ -224,7 +225,7 @@ module _ (h : Header) (x : Line) (a b : Operand) (p : Choice) (D : DoneAs h x a 
       pub second_reach : Reaches h b p.second p.level
       second_reach = (by_operands (Two i j) e).second_reached
 
-    module _ (lines : List Line) (count : ℕ) (r : Drafted) (after : List (List ℕ)) where
+    module _ (lines : List Line) (count : ℕ) (r : Drafted) (after : List Record) where
       abbrev Planned : Type 0
       Planned = Wrote (line_on h p x a b lines) (count + 7) r after
 

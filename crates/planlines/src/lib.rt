@@ -13,6 +13,7 @@ use operands::OperandsOf;
 use tables::Record;
 
 // ---- a line with one operand, and with two
+#[tactic(auto, using(crate::proofs::LineLaws::each_line_laws))]
 fn plan_one(
     header: Header,
     schedule: &mut [Record],
@@ -30,6 +31,7 @@ fn plan_one(
     conversions::put(schedule, one.count, named)
 }
 
+#[tactic(auto, using(crate::proofs::LineLaws::each_line_laws))]
 fn plan_two(
     header: Header,
     schedule: &mut [Record],
@@ -58,6 +60,7 @@ fn plan_two(
 }
 
 // ---- any line of a circuit, done as chosen
+#[tactic(auto, using(crate::proofs::WordLaws::operand_laws))]
 pub fn plan_line(
     header: Header,
     schedule: &mut [Record],

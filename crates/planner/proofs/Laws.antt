@@ -1,65 +1,81 @@
 -- Plan and least level, step by step: what each return says, from the tests on the way and what the callees ensure. Assumes nothing.
-use Prim.Native.Nat.{ℕ, ◌+◌}
-use mathlib.Core.Path.{◌≡◌, sym, ap, ◌∙◌}
+use Prim.Native.Nat.{ℕ, ◌<◌}
+use native.Mathlib.Omega.{arith}
+use mathlib.Core.Bool.{Bool, true, false, cond}
+use mathlib.Core.Path.{◌≡◌, refl, sym, ap, ◌∙◌, subst}
 use mathlib.Core.List.{List}
-use borrow.Author.Rules.{rules}
+use borrow.Author.Tests.{ne_eqb}
+use lib.Dec.{eqb}
+use Rattle.std.specs.Prelude.{Result, Ok, Err, IfErr}
 use Rattle.fields.specs.Pieces.{Bytes}
-use Rattle.model.specs.declared.Grammar.TheVariants.{Schedule}
-use Rattle.model.specs.declared.Header.{Header}
 use Rattle.model.specs.declared.Answer.{Answer}
-use Rattle.text.specs.Tables.{file_of}
+use Rattle.model.specs.declared.Answer.TheVariants.{Refused}
+use Rattle.model.specs.declared.Grammar.TheVariants.{Schedule}
+use Rattle.model.specs.declared.Refusal.{Refusal}
+use Rattle.model.specs.Answers.{answer_file, least_level}
+use Rattle.model.specs.Refusals.{number_of, level_answer}
 use Rattle.model.specs.Services.{plan}
-use Rattle.model.specs.Answers.{least_level}
 use Rattle.text.specs.Files.{read_text, circuit_context, file_text}
+use Rattle.text.specs.Tables.{file_of}
+use Rattle.tables.specs.declared.Record.{Record}
+use Rattle.tables.specs.declared.files.CircuitTable.{CircuitTable}
 use Rattle.tables.specs.Records.{held}
-use Rattle.tables.proofs.Records.{still_long}
-use Rattle.reader.specs.declared.FileRead.{FileRead}
-use Rattle.reader.specs.declared.FileRead.TheVariants.{Table, Refused}
-use Rattle.reader.specs.Reads.{reading_of}
-use Rattle.reader.proofs.Answers.{read_refused, read_file_lem, circuit_formed}
-use Rattle.plantable.specs.declared.Planned.{Planned}
-use Rattle.plantable.specs.declared.Planned.TheVariants.{Lines, TooFew}
+use Rattle.tables.specs.Files.{circuit_held}
+use Rattle.reader.specs.Reads.{circuit_told}
 use Rattle.plantable.specs.Plans.{planned_of}
-use Rattle.plantable.proofs.Told.{lines_few, place_fits}
-use Rattle.services.specs.declared.Reply.{Reply}
-use Rattle.services.specs.Outcomes.{writes, refuses, reply_of, Replied}
+use Rattle.replies.specs.Told.{reply_to}
+use Rattle.services.specs.Outcomes.{writes, reply_of, Replied}
 use Rattle.services.specs.Calls.{answered, planned, plan_outcome, least_outcome}
 use Rattle.services.proofs.Steps.{once_read_lem, once_refused, replied_as, refusal_replied}
 
--- ---- planning
-module _ (circuit : Bytes) (file : FileRead) (records : List (List ℕ)) (q : reading_of file records ≡ read_text circuit_context circuit) where
-  pub plan_unread : (out : Bytes) (r : Reply) (n p : ℕ) → file ≡ Refused n p → r ≡ reply_of (refuses n 1 p) → Replied (plan_outcome circuit) out r out
-  plan_unread out r n p is e =
-      replied_as (once_refused 1 (λ f. planned (plan f)) n p (read_refused circuit_context circuit file records q n p is))
-      (refusal_replied n 1 p out r e)
+module _ (circuit : Bytes) (file : Result CircuitTable Refusal) (q : circuit_told file ≡ read_text circuit_context circuit) where
+  -- ---- planning
+  pub plan_unread : (out : Bytes) (x : Refusal) → file ≡ Err x → Replied (plan_outcome circuit) out (reply_to (Err (record { file = 1; refusal = x }))) out
+  plan_unread out x is =
+      replied_as (once_refused 1 (λ f. planned (plan f)) (number_of x.fault) x.place (sym q ∙ ap circuit_told is))
+      (refusal_replied (number_of x.fault) 1 x.place out _ refl)
 
-  module _
-      (h : Header) (count : ℕ) (is : file ≡ Table h count) (w : Planned) (schedule : List (List ℕ))
-      (k : planned_of h schedule w ≡ plan (file_of (held h records count))) where
-    outcome_is : (v : Planned) → w ≡ v → planned (planned_of h schedule v) ≡ plan_outcome circuit
-    outcome_is v e =
-        ap planned (ap (planned_of h schedule) (sym e) ∙ k)
-        ∙ once_read_lem 1 (λ f. planned (plan f)) (file_of (held h records count)) (read_file_lem circuit_context circuit file records q h count is)
+  module _ (t : CircuitTable) (is : file ≡ Ok t) where
+    reads : read_text circuit_context circuit ≡ circuit_told (Ok t)
+    reads = sym q ∙ ap circuit_told is
 
-    pub plan_too_few : (out : Bytes) (r : Reply) (i : ℕ) → w ≡ TooFew i → r ≡ reply_of (refuses 6 1 (i + 2)) → Replied (plan_outcome circuit) out r out
-    plan_too_few out r i n e = replied_as (outcome_is (TooFew i) n) (refusal_replied 6 1 (i + 2) out r e)
+    module _ (w : Result ℕ Refusal) (schedule : List Record) (k : planned_of t.header schedule w ≡ plan (file_of (circuit_held t))) where
+      outcome_is : (v : Result ℕ Refusal) → w ≡ v → planned (planned_of t.header schedule v) ≡ plan_outcome circuit
+      outcome_is v e =
+          ap planned (ap (planned_of t.header schedule) (sym e) ∙ k) ∙ once_read_lem 1 (λ f. planned (plan f)) (file_of (circuit_held t)) reads
 
-    pub plan_text : (size : ℕ) → w ≡ Lines size → writes (file_text Schedule (file_of (held h schedule size))) ≡ plan_outcome circuit
-    plan_text size n = outcome_is (Lines size) n
+      pub plan_too_few : (out : Bytes) (x : Refusal) → w ≡ Err x → Replied (plan_outcome circuit) out (reply_to (Err (record { file = 1; refusal = x }))) out
+      plan_too_few out x n = replied_as (outcome_is (Err x) n) (refusal_replied (number_of x.fault) 1 x.place out _ refl)
 
--- ---- the least level
-module _ (circuit : Bytes) (r : Reply) (file : FileRead) (records : List (List ℕ)) (q : reading_of file records ≡ read_text circuit_context circuit) where
-  pub least_unread : (n p : ℕ) → file ≡ Refused n p → r ≡ reply_of (refuses n 1 p) → r ≡ reply_of (least_outcome circuit)
-  least_unread n p is e = e ∙ ap reply_of (once_refused 1 (λ f. answered 1 (least_level f)) n p (read_refused circuit_context circuit file records q n p is))
+      pub plan_text : (size : ℕ) → w ≡ Ok size → writes (file_text Schedule (file_of (held t.header schedule size))) ≡ plan_outcome circuit
+      plan_text size n = outcome_is (Ok size) n
 
-  pub least_answered :
-      (h : Header) (count : ℕ) → file ≡ Table h count → (a : Answer) → a ≡ least_level (file_of (held h records count)) → r ≡ reply_of (answered 1 a) →
-      r ≡ reply_of (least_outcome circuit)
-  least_answered h count is a e w =
-      w ∙ ap (λ (x : Answer). reply_of (answered 1 x)) e
-      ∙ ap reply_of (once_read_lem 1 (λ f. answered 1 (least_level f)) (file_of (held h records count)) (read_file_lem circuit_context circuit file records q h count is))
+  -- ---- the least level
+  pub least_unread : (x : Refusal) → file ≡ Err x → reply_to (Err (record { file = 1; refusal = x })) ≡ reply_of (least_outcome circuit)
+  least_unread x is = ap reply_of (once_refused 1 (λ f. answered 1 (least_level f)) (number_of x.fault) x.place (sym q ∙ ap circuit_told is))
 
--- what is asked on the way, and what is returned
-pub ruleset step_needs = (rules, still_long, circuit_formed, lines_few, place_fits)
+  module _ (t : CircuitTable) (is : file ≡ Ok t) (l : Result ℕ Refusal) (a : level_answer l ≡ least_level (file_of (circuit_held t))) where
+    -- where it comes to m
+    comes_to : (m : Result ℕ Refusal) → l ≡ m → reply_of (answered 1 (level_answer m)) ≡ reply_of (least_outcome circuit)
+    comes_to m e =
+        ap (λ (x : Answer). reply_of (answered 1 x)) (ap level_answer (sym e) ∙ a)
+        ∙ ap reply_of (once_read_lem 1 (λ f. answered 1 (least_level f)) (file_of (circuit_held t)) (sym q ∙ ap circuit_told is))
 
-pub ruleset step_returns = (plan_unread, plan_too_few, plan_text, least_unread, least_answered)
+    pub least_found : (n : ℕ) → l ≡ Ok n → reply_to (Ok n) ≡ reply_of (least_outcome circuit)
+    least_found n e = comes_to (Ok n) e
+
+    pub least_refused : (x : Refusal) → l ≡ Err x → IfErr l (λ (f : Refusal). 0 < f.place) → reply_to (Err (record { file = 1; refusal = x })) ≡ reply_of (least_outcome circuit)
+    least_refused x e some = ap (λ (f : ℕ). reply_to (Err (record { file = f; refusal = x }))) (sym this_file) ∙ comes_to (Err x) e
+      where
+        placed : 0 < x.place
+        placed = subst (λ (m : Result ℕ Refusal). IfErr m (λ (f : Refusal). 0 < f.place)) e some
+
+        -- the circuit, whatever the number
+        by_number : (b : Bool) → ◌≡◌ {A = ℕ} (cond b 1 1) 1
+        by_number true = refl
+        by_number false = refl
+
+        this_file : answer_file 1 (Refused (number_of x.fault) x.place) ≡ 1
+        this_file = rw (ne_eqb x.place 0 (λ z. omega (arith, placed))) (by_number (eqb (number_of x.fault) 12))
+
+pub ruleset step_returns = (plan_unread, plan_too_few, plan_text, least_unread, least_found, least_refused)

@@ -2,42 +2,47 @@
 #![tactic(auto)]
 
 ghost use Rattle.std.specs.Prelude.{◌≡◌};
+ghost use Rattle.replies.specs.Told.{reply_to};
 ghost use Rattle.services.specs.Outcomes.{reply_of, Replied};
 ghost use Rattle.services.specs.Calls.{plan_outcome, least_outcome};
 
-use plantable::Planned;
-use reader::FileRead;
+use replies::FileRefusal;
 use services::Reply;
 
-// Plans a circuit. The whole file is read before any line is found to have too few levels, and nothing is written before the text is known to fit.
-#[tactic(auto, using(crate::proofs::Laws::step_needs, crate::proofs::Laws::step_returns))]
+// The plan's text, and how many bytes it has. The whole file is read before any line is found to have too few levels, and nothing is written before
+// the text is known to fit.
+#[tactic(auto, using(crate::proofs::Laws::step_returns))]
+fn planned(circuit: &[u8], out: &mut [u8]) -> Result<u32, FileRefusal>
+    ensures { Replied (plan_outcome circuit.now) out.old (reply_to result) out.new }
+{
+    let mut records = [tables::FREE; 1792];
+    let table = reader::lend_circuit(circuit, &mut records)?;
+    let mut schedule = [tables::FREE; 1792];
+    let length = plantable::plan_table(&table, &mut schedule)?;
+    replies::put_text(out, b"schedule", table.header, &schedule, length)
+}
+
+// Plans a circuit.
 pub fn plan(circuit: &[u8], out: &mut [u8]) -> Reply
     ensures { Replied (plan_outcome circuit.now) out.old result out.new }
 {
-    let mut records = [tables::FREE; 1792];
-    match reader::read_circuit(circuit, &mut records) {
-        FileRead::Refused { number, place } => replies::refusal(number, 1, place),
-        FileRead::Table { header, count } => {
-            let mut schedule = [tables::FREE; 1792];
-            match plantable::plan_table(header, &records, count, &mut schedule) {
-                Planned::TooFew { line } => replies::refusal(6, 1, line + 2),
-                Planned::Lines(length) => {
-                    replies::lend(out, b"schedule", header, &schedule, length)
-                }
-            }
-        }
-    }
+    replies::reply(planned(circuit, out))
 }
 
 // The least top level. The header's own level is only tested for its range.
+#[tactic(auto, using(crate::proofs::Laws::step_returns))]
+fn least(circuit: &[u8]) -> Result<u32, FileRefusal>
+    ensures { reply_to result ≡ reply_of (least_outcome circuit.now) }
+{
+    let mut records = [tables::FREE; 1792];
+    let table = reader::lend_circuit(circuit, &mut records)?;
+    let level = levels::least_level(&table)?;
+    Ok(level)
+}
+
+// Seeks the least top level of a circuit.
 pub fn least_level(circuit: &[u8]) -> Reply
     ensures { result ≡ reply_of (least_outcome circuit.now) }
 {
-    let mut records = [tables::FREE; 1792];
-    match reader::read_circuit(circuit, &mut records) {
-        FileRead::Refused { number, place } => replies::refusal(number, 1, place),
-        FileRead::Table { header, count } => {
-            replies::answered(1, levels::least_level(header, &records, count))
-        }
-    }
+    replies::reply(least(circuit))
 }

@@ -29,6 +29,7 @@ use Rattle.model.specs.declared.Best.TheVariants as Bests
 use Rattle.model.specs.Files.{well_formed, operands, every_usable, kind_at, is_usable, is_ciphertext}
 use Rattle.model.specs.Machine.{Step, goes, stops, Run, finished, stopped, step, count_in, run_from, run}
 use Rattle.model.specs.Plan.{Draft, best_machine, choice_of, plan_line, plan_from, plan_lines}
+use Rattle.model.specs.Refusals.{number_of}
 use Rattle.model.specs.Scales.{header_in_range}
 use Rattle.model.specs.Services as Services
 use Rattle.model.specs.Services.{plan}
@@ -40,9 +41,12 @@ use Rattle.model.proofs.Formed.{LineFacts, formed_line, well_header, well_lines,
 use Rattle.model.proofs.Outcomes.{Outcome}
 use Rattle.model.proofs.Supplies.{few_bits, ValidBest, kind_for}
 use Rattle.model.proofs.Planned.{Whole, planned}
-use Rattle.text.specs.Tables.{TableFormed, file_of}
+use Rattle.text.specs.Tables.{file_of}
 use Rattle.operands.specs.Operands.{first_operand, second_operand}
-use Rattle.tables.specs.Records.{line_of, lines_of, lines_held, free_records, held}
+use Rattle.tables.specs.declared.files.CircuitTable.{CircuitTable}
+use Rattle.tables.specs.Files.{circuit_held}
+use Rattle.tables.specs.declared.Record.{Record}
+use Rattle.tables.specs.Records.{line_of, lines_of, lines_held, free_records}
 use Rattle.tables.proofs.Records.{free_long}
 use Rattle.choices.specs.Ranges.{Small}
 use Rattle.choices.proofs.Readings.{small_fits}
@@ -51,11 +55,11 @@ use Rattle.conversions.specs.declared.Operand.{Operand}
 use Rattle.conversions.specs.Drafts.{Room, Wrote}
 use Rattle.conversions.specs.Operands.{best_of, operand_in}
 use Rattle.conversions.proofs.PutLaws.{reading, read_same}
-use Rattle.linechoices.specs.declared.LineChoice.{LineChoice}
-use Rattle.linechoices.specs.declared.LineChoice.TheVariants.{Done, TooFew}
+use Rattle.std.specs.Prelude.{Result, Ok, Err}
+use Rattle.model.specs.declared.Fault.{Fault}
+use Rattle.model.specs.declared.Fault.TheVariants.{TooFewLevels}
 use Rattle.linechoices.specs.Steps.{step_on, line_choice, Known}
 use Rattle.planlines.specs.Lines.{line_on, Stands, Plannable, DoneAs}
-use Rattle.plantable.specs.declared.Planned.TheVariants as Answers
 use Rattle.plantable.specs.Plans.{planned_of}
 use Rattle.plantable.proofs.Alone.{known_of, Extends, Seen, Alone, StopsAs, alone}
 
@@ -74,27 +78,25 @@ pub record Entry (reserves : List ℤ) (levels : List ℕ) (a : ℕ) (b : Best) 
 
 -- With i circuit lines planned, whose best reserves, levels and numbers in the schedule are the first i of the three arrays, planning goes on
 -- from what is written, whatever lines follow.
-pub record Planning (h : Header) (records : List (List ℕ)) (size : ℕ) (schedule : List (List ℕ)) (reserves : List ℤ) (levels numbers : List ℕ) (count i : ℕ) : Type 0 where
-  pub formed : TableFormed Circuit (held h records size)
+pub record Planning (t : CircuitTable) (schedule : List Record) (reserves : List ℤ) (levels numbers : List ℕ) (count i : ℕ) : Type 0 where
   pub room : length schedule ≡ 1792
   pub few : count ≤ 7 * i
-  pub within : i ≤ size
+  pub within : i ≤ t.count
   pub wide : length reserves ≡ 256
   pub leveled : length levels ≡ 256
   pub numbered : length numbers ≡ 256
   pub small : (a : ℕ) → Small (get_or reserves a (pos 0))
   pub bests : List Best
-  pub runs : run (best_machine h) (lines_held records i) ≡ finished bests
+  pub runs : run (best_machine t.header) (lines_held t.records.now i) ≡ finished bests
   pub known : (a : ℕ) (b : Best) → get_elem? bests a ≡ some b → Entry reserves levels a b
-  pub onward : (full : List Best) → Extends h bests (take i numbers) full → (rest : List Line)
-      → plan_lines h full (lines_held records i ++ rest) ≡ plan_from h full (take i numbers) (lines_held schedule count) rest
+  pub onward : (full : List Best) → Extends t.header bests (take i numbers) full → (rest : List Line)
+      → plan_lines t.header full (lines_held t.records.now i ++ rest) ≡ plan_from t.header full (take i numbers) (lines_held schedule count) rest
 
-pub start : (h : Header) (records : List (List ℕ)) (size : ℕ) (schedule : List (List ℕ)) (reserves : List ℤ) (levels numbers : List ℕ) →
-    TableFormed Circuit (held h records size) → schedule ≡ free_records → reserves ≡ replicate 256 (pos 0) → length levels ≡ 256 → length numbers ≡ 256 →
-    Planning h records size schedule reserves levels numbers 0 0
-start h records size schedule reserves levels numbers f free r l n =
+pub start : (t : CircuitTable) (schedule : List Record) (reserves : List ℤ) (levels numbers : List ℕ) →
+    schedule ≡ free_records → reserves ≡ replicate 256 (pos 0) → length levels ≡ 256 → length numbers ≡ 256 →
+    Planning t schedule reserves levels numbers 0 0
+start t schedule reserves levels numbers free r l n =
     record {
-      formed = f;
       room = free_long schedule free;
       few = omega arith;
       within = omega arith;
@@ -118,8 +120,17 @@ below_usable before [] k u = omega arith
 below_usable before (a ∷ named) zero u = let b = usable_below before a (and_first (is_usable (kind_at before a)) (every_usable before named) u) in omega arith
 below_usable before (a ∷ named) (suc k) u = below_usable before named k (and_second (is_usable (kind_at before a)) (every_usable before named) u)
 
-module _ {h : Header} {records : List (List ℕ)} {size : ℕ} {schedule : List (List ℕ)} {reserves : List ℤ} {levels numbers : List ℕ} {count i : ℕ}
-    (w : Planning h records size schedule reserves levels numbers count i) where
+module _ {t : CircuitTable} {schedule : List Record} {reserves : List ℤ} {levels numbers : List ℕ} {count i : ℕ}
+    (w : Planning t schedule reserves levels numbers count i) where
+  abbrev h : Header
+  h = t.header
+
+  abbrev records : List Record
+  records = t.records.now
+
+  abbrev size : ℕ
+  size = t.count
+
   abbrev lines : List Line
   lines = lines_held records size
 
@@ -130,12 +141,12 @@ module _ {h : Header} {records : List (List ℕ)} {size : ℕ} {schedule : List 
   ]
 
   pub small_size : size ≤ 256
-  small_size = leb→le size 256 w.formed.few
+  small_size = leb→le size 256 t.formed.few
 
   records_long : length (lines_of records) ≡ 1792
-  records_long = w.formed.room
+  records_long = t.formed.room
 
-  pub all_planned : size ≤ i → planned_of h schedule (Answers.Lines count) ≡ plan (file_of (held h records size))
+  pub all_planned : size ≤ i → planned_of h schedule (Ok count) ≡ plan (file_of (circuit_held t))
   all_planned end =
       sym (ap plan_for (ap (λ (n : ℕ). run (best_machine h) (lines_held records n)) (sym same) ∙ w.runs)
       ∙ ap (λ (l : List Line). Services.scheduled (record { header = h; lines = l }))
@@ -149,18 +160,28 @@ module _ {h : Header} {records : List (List ℕ)} {size : ℕ} {schedule : List 
   plan_fits = omega (arith, w.few, w.within, small_size)
 
   -- no record is added
-  pub same_room : (before : List (List ℕ)) → before ≡ free_records → length schedule ≡ length before
+  pub same_room : (before : List Record) → before ≡ free_records → length schedule ≡ length before
   same_room before free = w.room ∙ sym (free_long before free)
 
+  -- each array has a place for any line of a circuit
+  pub in_reserves : (a : ℕ) → a < 256 → a < length reserves
+  in_reserves a f = omega (arith, w.wide)
+
+  pub in_levels : (a : ℕ) → a < 256 → a < length levels
+  in_levels a f = omega (arith, w.leveled)
+
+  pub in_numbers : (a : ℕ) → a < 256 → a < length numbers
+  in_numbers a f = omega (arith, w.numbered)
+
   pub records_within : i ≤ length records
-  records_within = omega (arith, w.within, small_size, w.formed.room, length-map records line_of)
+  records_within = omega (arith, w.within, small_size, t.formed.room, length-map records line_of)
 
   module _ (more : i < size) where
     pub index_small : i < 256
     index_small = omega (arith, small_size)
 
     pub record_below : i < length records
-    record_below = omega (arith, small_size, w.formed.room, length-map records line_of)
+    record_below = omega (arith, small_size, t.formed.room, length-map records line_of)
 
     pub line_room : Room schedule count 7
     line_room = record { long = w.room; below = omega (arith, w.few, small_size) }
@@ -172,7 +193,7 @@ module _ {h : Header} {records : List (List ℕ)} {size : ℕ} {schedule : List 
     before_length = length-take-le i (lines_of records) (omega (arith, records_long, small_size))
 
     range_held : T (header_in_range h)
-    range_held = well_header Circuit h lines w.formed.lines
+    range_held = well_header Circuit h lines t.formed.lines
 
     H : HeaderFacts h
     H = header_facts h range_held
@@ -183,7 +204,7 @@ module _ {h : Header} {records : List (List ℕ)} {size : ℕ} {schedule : List 
     whole n k bests e =
         planned h H (lines_held records n)
         (well_lines Circuit h (lines_held records n)
-        (subst (λ (l : List Line). T (well_formed Circuit h l)) (take-take n size (lines_of records) k) (well_take Circuit h lines n w.formed.lines))) e
+        (subst (λ (l : List Line). T (well_formed Circuit h l)) (take-take n size (lines_of records) k) (well_take Circuit h lines n t.formed.lines))) e
 
     so_far : Whole h H before w.bests (plan_lines h w.bests before)
     so_far = whole i w.within w.bests w.runs
@@ -264,7 +285,7 @@ module _ {h : Header} {records : List (List ℕ)} {size : ℕ} {schedule : List 
           ∙ take-append-drop (i + 1) lines
 
       facts : LineFacts Circuit h before x
-      facts = formed_line Circuit h lines (well_lines Circuit h lines w.formed.lines) before x rest all_lines
+      facts = formed_line Circuit h lines (well_lines Circuit h lines t.formed.lines) before x rest all_lines
 
       operand_below : (k : ℕ) → get_or (operands x) k 0 ≤ i
       operand_below k = omega (arith, below_usable before (operands x) k facts.usable, before_length)
@@ -314,18 +335,25 @@ module _ {h : Header} {records : List (List ℕ)} {size : ℕ} {schedule : List 
               range_held = range_held;
               first = subst (λ (q : Operand). Small q.reserve) (sym eo) (w.small a);
               second = subst (λ (q : Operand). Small q.reserve) (sym eo') (w.small b);
-              only_six = λ n e. only_six h lines w.formed.lines i n (run_stops n e);
+              only_six = λ n e. only_six h lines t.formed.lines i n (run_stops n e);
             }
 
-        module _ (r : LineChoice) (is : r ≡ line_choice (step_on h x o o')) where
-          pub too_few : r ≡ TooFew → (j : ℕ) → j ≡ i → planned_of h schedule (Answers.TooFew j) ≡ plan (file_of (held h records size))
-          too_few t j ej = go (step_on h x o o') refl (sym is ∙ t)
+        module _ (r : Result Choice Fault) (is : r ≡ line_choice (step_on h x o o')) where
+          pub too_few : (f : Fault) → r ≡ Err f → planned_of h schedule (Err (record { fault = f; place = i + 2 })) ≡ plan (file_of (circuit_held t))
+          too_few f k = go (step_on h x o o') refl (sym is ∙ k)
             where
-              go : (s : Step Best ℕ) → step_on h x o o' ≡ s → line_choice s ≡ TooFew → planned_of h schedule (Answers.TooFew j) ≡ plan (file_of (held h records size))
-              go (goes v) e q = absurd (let z : ◌≡◌ {A = ℕ} 0 1 = cc in omega arith)
-              go (stops n) e q = sym (ap plan_for (run_stops n e) ∙ ap₂ Services.unplanned (line_known.only_six n e) (ap place_of (sym ej)))
+              six : ◌≡◌ {A = Result Choice Fault} (Err TooFewLevels) (Err f) → 6 ≡ number_of f
+              six q = ap number_of (injected q)
+                where
+                  injected : ◌≡◌ {A = Result Choice Fault} (Err TooFewLevels) (Err f) → TooFewLevels ≡ f
+                  injected d = cc
 
-          module _ (p : Choice) (t : r ≡ Done p) where
+              go : (s : Step Best ℕ) → step_on h x o o' ≡ s → line_choice s ≡ Err f
+                  → planned_of h schedule (Err (record { fault = f; place = i + 2 })) ≡ plan (file_of (circuit_held t))
+              go (goes v) e q = absurd (let z : ◌≡◌ {A = ℕ} 0 1 = cc in omega arith)
+              go (stops n) e q = sym (ap plan_for (run_stops n e) ∙ ap (λ (m : ℕ). Services.unplanned m (i + 2)) (line_known.only_six n e ∙ six q))
+
+          module _ (p : Choice) (ok : r ≡ Ok p) where
             -- the line's best, and the line by itself
             record Went : Type 0 where
               best : Best
@@ -336,8 +364,8 @@ module _ {h : Header} {records : List (List ℕ)} {size : ℕ} {schedule : List 
             went : Went
             went = go (step (best_machine h) (on []).ins w.bests x) (by_itself (on []).ins) (ap (run (best_machine h)) with_line ∙ (on []).goes_on)
               where
-                done : (s : Step Best ℕ) → step_on h x o o' ≡ s → Done p ≡ line_choice s
-                done s e = sym t ∙ is ∙ ap line_choice e
+                done : (s : Step Best ℕ) → step_on h x o o' ≡ s → Ok p ≡ line_choice s
+                done s e = sym ok ∙ is ∙ ap line_choice e
 
                 go : (s : Step Best ℕ) → Outcome (StopsAs h w.bests (take i numbers) o o' x) (Alone h w.bests (take i numbers) o o' x) s
                     → run (best_machine h) (lines_held records (i + 1))
@@ -345,11 +373,11 @@ module _ {h : Header} {records : List (List ℕ)} {size : ℕ} {schedule : List 
                     → Went
                 go (goes v) A e = record { best = v; runs = e; alone = A; is_choice = same (done (goes A.itself) A.goes_on) }
                   where
-                    same : {q : Choice} → Done p ≡ Done q → p ≡ q
+                    same : {q : Choice} → ◌≡◌ {A = Result Choice Fault} (Ok p) (Ok q) → p ≡ q
                     same d = cc
                 go (stops n) q e = absurd (never (done (stops n) q))
                   where
-                    never : Done p ≡ TooFew → ⊥
+                    never : ◌≡◌ {A = Result Choice Fault} (Ok p) (Err TooFewLevels) → ⊥
                     never d = let z : ◌≡◌ {A = ℕ} 0 1 = cc in omega arith
 
             pub done_as : DoneAs h x o o' p
@@ -379,7 +407,7 @@ module _ {h : Header} {records : List (List ℕ)} {size : ℕ} {schedule : List 
             reserve_small : Small p.reserve
             reserve_small = rw reserve_own (valid_small went.best valid)
 
-            module _ (after : List (List ℕ)) (d : Drafted) (W : Wrote (line_on h p x o o' (lines_held schedule count)) (count + 7) d after) where
+            module _ (after : List Record) (d : Drafted) (W : Wrote (line_on h p x o o' (lines_held schedule count)) (count + 7) d after) where
               abbrev bests_then : List Best
               bests_then = w.bests ++ (went.best ∷ [])
 
@@ -467,10 +495,9 @@ module _ {h : Header} {records : List (List ℕ)} {size : ℕ} {schedule : List 
                       ∙ went.alone.lines_are full so_extends (lines_held schedule count)
                       ∙ ap (λ (q : Choice). line_on h q x o o' (lines_held schedule count)) (sym went.is_choice)
 
-              pub line_planned : (n : ℕ) → n ≡ d.number → Planning h records size after reserves_then levels_then (set numbers i n) d.count (i + 1)
+              pub line_planned : (n : ℕ) → n ≡ d.number → Planning t after reserves_then levels_then (set numbers i n) d.count (i + 1)
               line_planned n en =
                   record {
-                    formed = w.formed;
                     room = W.long;
                     few = omega (arith, W.few, w.few);
                     within = omega arith;
@@ -493,6 +520,9 @@ pub ruleset plan_laws = (
   all_planned,
   plan_fits,
   same_room,
+  in_reserves,
+  in_levels,
+  in_numbers,
   index_small,
   first_small,
   second_small,

@@ -1,27 +1,21 @@
 // The plan of a circuit, in one walk over its lines: each is done by what is known of the lines before it, and written at once.
 #![tactic(auto)]
 
-ghost use Rattle.std.specs.Prelude.{◌≡◌, ◌≤◌, ◌<◌, length};
-ghost use Rattle.model.specs.declared.Grammar.TheVariants.{Circuit};
+ghost use Rattle.std.specs.Prelude.{◌≡◌, ◌≤◌, ◌<◌, length, IfOk, IfErr};
 ghost use Rattle.model.specs.Services.{plan};
-ghost use Rattle.text.specs.Tables.{TableFormed, file_of};
-ghost use Rattle.tables.specs.Records.{lines_held, free_records, held};
+ghost use Rattle.text.specs.Tables.{file_of};
+ghost use Rattle.tables.specs.Files.{circuit_held};
+ghost use Rattle.tables.specs.Records.{lines_held, free_records};
 ghost use Rattle.conversions.specs.Operands.{operand_in};
-ghost use Rattle.plantable.specs.Plans.{planned_of, number_told};
+ghost use Rattle.plantable.specs.Plans.{planned_of};
 
 use conversions::Operand;
-use linechoices::LineChoice;
-use model::Header;
+use model::Refusal;
 use tables::Record;
-
-// What planning comes to: the plan is written, in so many lines, or this line has too few levels.
-#[derive(Clone, Copy)]
-pub enum Planned {
-    Lines(usize),
-    TooFew { line: u32 },
-}
+use tables::files::CircuitTable;
 
 // What is known of a value that a line after `count` circuit lines names.
+#[tactic(auto, using(crate::proofs::Planning::operand_laws))]
 fn operand_at(
     circuit: &[Record],
     count: usize,
@@ -46,33 +40,34 @@ fn operand_at(
     }
 }
 
-// The plan of a circuit, into records that are free. Beside it stand the best reserves of the circuit's lines, their levels, and their
-// numbers in the schedule.
+// The plan of a circuit, into records that are free: of how many lines it is, or the refusal of the line that has too few levels. Beside it
+// stand the best reserves of the circuit's lines, their levels, and their numbers in the schedule.
 #[tactic(auto, using(crate::proofs::Planning::plan_laws))]
-pub fn plan_table(
-    header: Header,
-    circuit: &[Record],
-    size: usize,
-    schedule: &mut [Record],
-) -> Planned
-    requires table_formed { TableFormed Circuit (held header circuit.now size) }
-    requires schedule_value { schedule.old ≡ free_records }
-    ensures result_after { planned_of header schedule.new result ≡ plan (file_of (held header circuit.now size)) }
-    ensures few { number_told result ≤ 1792 }
+pub fn plan_table(circuit: &CircuitTable, schedule: &mut [Record]) -> Result<usize, Refusal>
+    requires { schedule.old ≡ free_records }
+    ensures planned { planned_of circuit.now.header schedule.new result ≡ plan (file_of (circuit_held circuit.now)) }
+    ensures few { IfOk result (λ count. count ≤ 1792) }
+    ensures placed { IfErr result (λ r. r.place ≤ 1794) }
 {
+    let header = circuit.header;
     let mut reserves = [0i32; 256];
     let mut levels = [0u16; 256];
     let mut numbers = [0u16; 256];
     let mut count: usize = 0;
-    let mut i: usize = 0;
-    while i < size {
-        let line = tables::line_at(circuit, i);
+    for i in 0..circuit.count {
+        let line = tables::line_at(circuit.records, i);
         let a = operands::first_operand(line);
         let b = operands::second_operand(line);
-        let first = operand_at(circuit, i, &reserves, &levels, &numbers, a);
-        let second = operand_at(circuit, i, &reserves, &levels, &numbers, b);
-        let LineChoice::Done(choice) = linechoices::choice_of(header, line, first, second) else {
-            return Planned::TooFew { line: i as u32 };
+        let first = operand_at(circuit.records, i, &reserves, &levels, &numbers, a);
+        let second = operand_at(circuit.records, i, &reserves, &levels, &numbers, b);
+        let choice = match linechoices::choice_of(header, line, first, second) {
+            Ok(choice) => choice,
+            Err(fault) => {
+                return Err(Refusal {
+                    fault,
+                    place: (i as u32) + 2,
+                });
+            }
         };
         let drafted = planlines::plan_line(header, schedule, count, line, choice, first, second);
         let reserve = choice.reserve;
@@ -80,7 +75,6 @@ pub fn plan_table(
         levels[i] = choice.level as u16;
         numbers[i] = drafted.number;
         count = drafted.count;
-        i += 1;
     }
-    Planned::Lines(count)
+    Ok(count)
 }

@@ -1,81 +1,62 @@
--- A record by its first number: its price per level, the levels at which its line's operations start, and the level that its line has. Assumes nothing.
+-- A record by its word: its price per level, the levels at which its line's operations start, and the level that its line has. Assumes nothing.
 use Prim.Native.Nat.{ℕ, zero, suc, ◌+◌, ◌-◌, ◌*◌, ◌≤◌, ◌<◌}
 use native.Mathlib.Omega.{arith}
 use mathlib.Core.Path.{◌≡◌, refl, sym, ap, ◌∙◌, subst}
 use mathlib.Core.Bool.{Bool, true, false, cond, ◌&&◌}
 use mathlib.Core.List.{List, [], ◌∷◌}
-use mathlib.Core.Logic.{⊎_elim}
 use borrow.Author.Rules.{rules}
-use borrow.Author.Tests.{ne_eqb}
-use lib.Dec.{T, eqb, leb, leb→le}
+use lib.Dec.{T, leb, leb→le}
 use lib.ListN.{get_or}
-use Rattle.model.specs.declared.Grammar.TheVariants.{Schedule}
 use Rattle.model.specs.declared.Header.{Header}
 use Rattle.model.specs.declared.Kind.{Kind}
 use Rattle.model.specs.declared.Line.{Line}
-use Rattle.model.specs.declared.Line.TheVariants.{Enc}
+use Rattle.model.specs.declared.Line.TheVariants as Lines
+use Rattle.model.specs.declared.Word.{Word}
+use Rattle.model.specs.declared.Word.TheVariants.{Mul, Enc, Rs, Ms}
+use Rattle.model.specs.Numbering.{same_word}
 use Rattle.rows.specs.Fields.{within}
-use Rattle.model.specs.Files.{is_word, kind_at, is_ciphertext, in_range}
-use Rattle.model.proofs.Tests.{and_first, and_second, below_or_not, within_facts, header_facts}
-use Rattle.operands.proofs.Renaming.{each_number, numbered_word}
-use Rattle.tables.specs.Records.{line_with, line_from, line_of}
+use Rattle.model.specs.Files.{kind_at, is_ciphertext, in_range}
+use Rattle.model.proofs.EveryWord.{each_word, every_word_lem, same_word_lem}
+use Rattle.model.proofs.Tests.{and_first, and_second, within_facts, header_facts}
+use Rattle.tables.specs.declared.Record.{Record}
+use Rattle.tables.specs.Records.{word_number, line_with, line_of}
 use Rattle.prices.specs.Prices.{summed, per_level, down_from}
-use Rattle.prices.specs.Levels.{summed_starts, level_after, OnLevel, product_of, prices}
+use Rattle.prices.specs.Levels.{OnLevel, product_of, prices}
 
--- ---- what is told by the first number
--- a price per level, where b tells whether both operands are ciphertexts
-abbrev per_by : Bool → ℕ → ℕ
-per_by b n = cond (eqb n 6) (cond b 40 4) (get_or prices n 0)
+-- ---- the price per level by the word, where b tells whether both operands are ciphertexts
+abbrev per_by : Bool → Word → ℕ
+per_by b w = cond (same_word w Mul) (cond b 40 4) (get_or prices (word_number w) 0)
 
-abbrev starts_by : ℕ → ℕ → ℕ → ℕ → ℕ
-starts_by b c l n =
-    cond (eqb n 0) 0 (cond (eqb n 1) 0 (cond (eqb n 2) 0 (cond (eqb n 7) 0 (cond (eqb n 8) (c + 0)
-    (cond (eqb n 9) (summed (down_from l b)) (cond (eqb n 10) (summed (down_from l b)) (l + 0)))))))
+no_product : (w : Word) → (w ≡ Mul → ⊥) → same_word w Mul ≡ false
+no_product w other = go (same_word w Mul) (same_word_lem w Mul)
+  where
+    go : (b : Bool) → (T b → w ≡ Mul) → b ≡ false
+    go true same = absurd (other (same tt))
+    go false same = refl
 
-abbrev after_by : ℕ → ℕ → ℕ → ℕ → ℕ → ℕ
-after_by top b c l n = cond (eqb n 0) 0 (cond (eqb n 1) top (cond (eqb n 2) 0 (cond (eqb n 8) c (cond (eqb n 9) (l - b) (cond (eqb n 10) (l - b) l)))))
+product_told : (b : Bool) → get_or prices (cond b 6 12) 0 ≡ cond b 40 4
+product_told true = refl
+product_told false = refl
 
-module _ (n a b c : ℕ) (word : 12 ≤ n → ⊥) where
-  per_told : (lines : List Line) → per_level lines (line_from n a b c) ≡ per_by (is_ciphertext (kind_at lines a) && is_ciphertext (kind_at lines b)) n
-  unfolding line_from
-  per_told lines =
-      each_number (λ w. per_level lines (line_with w a b c)) (per_by (is_ciphertext (kind_at lines a) && is_ciphertext (kind_at lines b))) refl n (λ l. absurd (word l))
+module _ (lines : List Line) (r : Record) where
+  abbrev both : Bool
+  both = is_ciphertext (kind_at lines r.first) && is_ciphertext (kind_at lines r.second)
 
-  starts_told : (l : ℕ) → summed_starts (line_from n a b c) l ≡ starts_by b c l n
-  unfolding line_from summed_starts
-  starts_told l = each_number (λ w. summed_starts (line_with w a b c) l) (starts_by b c l) refl n (λ p. absurd (word p))
+  told : per_level lines (line_of r) ≡ per_by both r.word
+  unfolding line_of
+  told = each_word (λ w. per_level lines (line_with w r.first r.second r.third)) (per_by both) refl r.word
 
-  after_told : (h : Header) (l : ℕ) → level_after h (line_from n a b c) l ≡ after_by h.top b c l n
-  unfolding line_from
-  after_told h l = each_number (λ w. level_after h (line_with w a b c) l) (after_by h.top b c l) refl n (λ p. absurd (word p))
+  -- any word but `mul`
+  pub other_priced : (n : ℕ) → (r.word ≡ Mul → ⊥) → n ≡ word_number r.word → get_or prices n 0 ≡ per_level lines (line_of r)
+  other_priced n other is = ap (λ (m : ℕ). get_or prices m 0) is ∙ sym (told ∙ rw (no_product r.word other))
 
--- ---- a record that holds a schedule's line
-module _ (r : List ℕ) (word : T (is_word Schedule (line_of r))) where
-  some_word : get_or r 0 0 ≡ 0 → ⊥
-  unfolding line_of line_from
-  some_word e = rw e at word
+  pub product_priced : (j k : Kind) (n : ℕ) → r.word ≡ Mul → j ≡ kind_at lines r.first → k ≡ kind_at lines r.second → n ≡ product_of j k
+      → get_or prices n 0 ≡ per_level lines (line_of r)
+  product_priced j k n e first second is =
+      ap (λ (m : ℕ). get_or prices m 0) is ∙ product_told (is_ciphertext j && is_ciphertext k) ∙ rw (first, second) (sym (told ∙ ap (per_by both) e))
 
-  pub word_among : get_or r 0 0 < 13
-  word_among = ⊎_elim (λ l. l) (λ l. absurd (numbered_word r word (omega arith))) (below_or_not (get_or r 0 0) 13)
-
-  module _ (lines : List Line) where
-    told : per_level lines (line_of r) ≡ per_by (is_ciphertext (kind_at lines (get_or r 1 0)) && is_ciphertext (kind_at lines (get_or r 2 0))) (get_or r 0 0)
-    unfolding line_of
-    told = per_told (get_or r 0 0) (get_or r 1 0) (get_or r 2 0) (get_or r 3 0) (numbered_word r word) lines
-
-    -- any word but `mul`
-    pub other_priced : (get_or r 0 0 ≡ 6 → ⊥) → get_or prices (get_or r 0 0) 0 ≡ per_level lines (line_of r)
-    other_priced other = sym (told ∙ rw (ne_eqb (get_or r 0 0) 6 other))
-
-    product_told : (b : Bool) → get_or prices (cond b 6 12) 0 ≡ cond b 40 4
-    product_told true = refl
-    product_told false = refl
-
-    pub product_priced : (j k : Kind) (n : ℕ) → get_or r 0 0 ≡ 6 → j ≡ kind_at lines (get_or r 1 0) → k ≡ kind_at lines (get_or r 2 0) → n ≡ product_of j k
-        → get_or prices n 0 ≡ per_level lines (line_of r)
-    product_priced j k n e first second is =
-        ap (λ (m : ℕ). get_or prices m 0) is ∙ product_told (is_ciphertext j && is_ciphertext k)
-        ∙ rw (first, second) (sym (told ∙ ap (per_by (is_ciphertext (kind_at lines (get_or r 1 0)) && is_ciphertext (kind_at lines (get_or r 2 0)))) e))
+pub word_among : (w : Word) (n : ℕ) → n ≡ word_number w → n < 13
+word_among w n is = let below = leb→le (word_number w) 12 (every_word_lem (λ v. leb (word_number v) 12) tt w) in omega arith
 
 among : (b : Bool) → cond b 6 12 < 13
 among true = omega arith
@@ -158,24 +139,24 @@ module _ (level count total done : ℕ) (s : Summing level count total done) whe
 pub ruleset sum_laws = (rules, sum_start, level_left, sum_more, sum_done, sum_few)
 
 -- ---- a line, where its operand has level l
-module _ (h : Header) (r : List ℕ) (l : ℕ) (on : OnLevel h (line_of r) l) where
-  -- the numbers of an `enc`, and those of an `rs` and an `ms`
-  pub encoded_small : get_or r 0 0 ≡ 8 → get_or r 3 0 ≤ 60
-  unfolding line_of line_from
+module _ (h : Header) (r : Record) (l : ℕ) (on : OnLevel h (line_of r) l) where
+  -- the level of an `enc`, and the count of an `rs` or an `ms`
+  pub encoded_small : r.word ≡ Enc → r.third ≤ 60
+  unfolding line_of
   encoded_small e =
-      let f : T (in_range h (Enc (get_or r 1 0) (get_or r 2 0) (get_or r 3 0))) = rw e at on.range in
-      let level = within_facts 1 h.top (get_or r 3 0) (and_second (within 1 3600 (get_or r 2 0)) (within 1 h.top (get_or r 3 0)) f) in
+      let f : T (in_range h (Lines.Enc r.first r.second r.third)) = rw e at on.range in
+      let level = within_facts 1 h.top r.third (and_second (within 1 3600 r.second) (within 1 h.top r.third) f) in
       omega (arith, level.most, (header_facts h on.header_range).top.most)
 
-  pub encoded_few : get_or r 0 0 ≡ 8 → get_or r 3 0 ≤ 3600
+  pub encoded_few : r.word ≡ Enc → r.third ≤ 3600
   encoded_few e = omega (arith, encoded_small e)
 
-  pub rescaled_left : get_or r 0 0 ≡ 9 → get_or r 2 0 ≤ l
-  unfolding line_of line_from
+  pub rescaled_left : r.word ≡ Rs → r.second ≤ l
+  unfolding line_of
   rescaled_left e = rw e at on.low
 
-  pub switched_left : get_or r 0 0 ≡ 10 → get_or r 2 0 ≤ l
-  unfolding line_of line_from
+  pub switched_left : r.word ≡ Ms → r.second ≤ l
+  unfolding line_of
   switched_left e = rw e at on.low
 
   pub top_small : h.top ≤ 60
@@ -187,78 +168,9 @@ module _ (h : Header) (r : List ℕ) (l : ℕ) (on : OnLevel h (line_of r) l) wh
   pub level_few : l ≤ 3600
   level_few = omega (arith, on.high)
 
-  starts : summed_starts (line_of r) l ≡ starts_by (get_or r 2 0) (get_or r 3 0) l (get_or r 0 0)
-  unfolding line_of
-  starts = starts_told (get_or r 0 0) (get_or r 1 0) (get_or r 2 0) (get_or r 3 0) (numbered_word r on.word) l
-
-  starts_where : (m : ℕ) → get_or r 0 0 ≡ m → starts_by (get_or r 2 0) (get_or r 3 0) l m ≡ summed_starts (line_of r) l
-  starts_where m e = sym (starts ∙ ap (starts_by (get_or r 2 0) (get_or r 3 0) l) e)
-
-  pub starts_nowhere : (m : ℕ) → get_or r 0 0 ≡ m → starts_by (get_or r 2 0) (get_or r 3 0) l m ≡ 0 → 0 ≡ summed_starts (line_of r) l
-  starts_nowhere m e none = sym none ∙ starts_where m e
-
-  pub starts_own : get_or r 0 0 ≡ 8 → get_or r 3 0 ≡ summed_starts (line_of r) l
-  starts_own e = omega (arith, starts_where 8 e)
-
-  pub rescale_starts : (n : ℕ) → get_or r 0 0 ≡ 9 → n ≡ summed (down_from l (get_or r 2 0)) → n ≡ summed_starts (line_of r) l
-  rescale_starts n e is = is ∙ starts_where 9 e
-
-  pub switch_starts : (n : ℕ) → get_or r 0 0 ≡ 10 → n ≡ summed (down_from l (get_or r 2 0)) → n ≡ summed_starts (line_of r) l
-  switch_starts n e is = is ∙ starts_where 10 e
-
-  pub starts_operand :
-      (get_or r 0 0 ≡ 1 → ⊥) → (get_or r 0 0 ≡ 2 → ⊥) → (get_or r 0 0 ≡ 7 → ⊥) → (get_or r 0 0 ≡ 8 → ⊥) → (get_or r 0 0 ≡ 9 → ⊥) → (get_or r 0 0 ≡ 10 → ⊥)
-      → l ≡ summed_starts (line_of r) l
-  starts_operand n1 n2 n7 n8 n9 n10 =
-      let all : summed_starts (line_of r) l ≡ l + 0 =
-      starts
-      ∙ rw (
-        ne_eqb (get_or r 0 0) 0 (some_word r on.word),
-        ne_eqb (get_or r 0 0) 1 n1,
-        ne_eqb (get_or r 0 0) 2 n2,
-        ne_eqb (get_or r 0 0) 7 n7,
-        ne_eqb (get_or r 0 0) 8 n8,
-        ne_eqb (get_or r 0 0) 9 n9,
-        ne_eqb (get_or r 0 0) 10 n10,
-      ) in
-      omega (arith, all)
-
-  after : level_after h (line_of r) l ≡ after_by h.top (get_or r 2 0) (get_or r 3 0) l (get_or r 0 0)
-  unfolding line_of
-  after = after_told (get_or r 0 0) (get_or r 1 0) (get_or r 2 0) (get_or r 3 0) (numbered_word r on.word) h l
-
-  pub after_where : (m n : ℕ) → get_or r 0 0 ≡ m → after_by h.top (get_or r 2 0) (get_or r 3 0) l m ≡ n → n ≡ level_after h (line_of r) l
-  after_where m n e is = sym is ∙ sym (after ∙ ap (after_by h.top (get_or r 2 0) (get_or r 3 0) l) e)
-
-  pub after_operand :
-      (get_or r 0 0 ≡ 1 → ⊥) → (get_or r 0 0 ≡ 2 → ⊥) → (get_or r 0 0 ≡ 8 → ⊥) → (get_or r 0 0 ≡ 9 → ⊥) → (get_or r 0 0 ≡ 10 → ⊥) → l ≡ level_after h (line_of r) l
-  after_operand n1 n2 n8 n9 n10 =
-      sym
-      (after
-      ∙ rw (
-        ne_eqb (get_or r 0 0) 0 (some_word r on.word),
-        ne_eqb (get_or r 0 0) 1 n1,
-        ne_eqb (get_or r 0 0) 2 n2,
-        ne_eqb (get_or r 0 0) 8 n8,
-        ne_eqb (get_or r 0 0) 9 n9,
-        ne_eqb (get_or r 0 0) 10 n10,
-      ))
-
   pub less_small : (n : ℕ) → l - n ≤ 60
   less_small n = omega (arith, on.high)
 
-pub ruleset start_laws = (
-  rules,
-  encoded_few,
-  rescaled_left,
-  switched_left,
-  level_high,
-  level_few,
-  starts_nowhere,
-  starts_own,
-  rescale_starts,
-  switch_starts,
-  starts_operand,
-)
+pub ruleset start_laws = (rules, encoded_few, rescaled_left, switched_left, level_high, level_few)
 
-pub ruleset after_laws = (rules, encoded_small, rescaled_left, switched_left, top_small, level_high, after_where, after_operand, less_small)
+pub ruleset after_laws = (rules, encoded_small, rescaled_left, switched_left, top_small, level_high, less_small)

@@ -27,7 +27,8 @@ use Rattle.model.proofs.Checked.{pair_numbers}
 use Rattle.model.proofs.Formed.{LineFacts, well_header, well_lines, formed_index, usable_below}
 use Rattle.operands.specs.Operands.{first_operand}
 use Rattle.operands.proofs.Operands.{operand_below}
-use Rattle.tables.specs.Records.{line_from, line_of, lines_of, lines_held}
+use Rattle.tables.specs.declared.Record.{Record}
+use Rattle.tables.specs.Records.{free_record, line_of, lines_of, lines_held}
 use Rattle.tables.proofs.Beside.{none_most, set_most}
 use Rattle.prices.specs.Prices.{summed, per_level, down_from, starts_at, line_price, IsPrice}
 use Rattle.prices.specs.Levels.{summed_starts, taken, level_after, OnLevel, RuledTable}
@@ -94,7 +95,7 @@ abbrev price_to : List Line → (ℕ → ℕ) → ℕ → ℕ
 price_to lines level i = summed (map (line_price lines level) (take i lines))
 
 -- The loop's invariant. Known of line a: the level that whatever keeps the rules gives it.
-pub record Pricing (h : Header) (records : List (List ℕ)) (count : ℕ) (levels : List ℕ) (total i : ℕ) : Type 0 where
+pub record Pricing (h : Header) (records : List Record) (count : ℕ) (levels : List ℕ) (total i : ℕ) : Type 0 where
   pub table : RuledTable h records count
   pub wide : length levels ≡ 1792
   pub within : i ≤ count
@@ -111,7 +112,7 @@ map_append : {A B : Type 0} (f : A → B) (xs : List A) (x : A) → map f (xs ++
 map_append f [] x = refl
 map_append f (y ∷ xs) x = ap (λ l. f y ∷ l) (map_append f xs x)
 
-pub start : (h : Header) (records : List (List ℕ)) (count : ℕ) → RuledTable h records count → Pricing h records count (replicate 1792 0) 0 0
+pub start : (h : Header) (records : List Record) (count : ℕ) → RuledTable h records count → Pricing h records count (replicate 1792 0) 0 0
 start h records count t =
     record {
       table = t;
@@ -123,7 +124,7 @@ start h records count t =
       so_far = λ keeps. refl;
     }
 
-module _ (h : Header) (records : List (List ℕ)) (count : ℕ) (levels : List ℕ) (total i : ℕ) (k : Pricing h records count levels total i) where
+module _ (h : Header) (records : List Record) (count : ℕ) (levels : List ℕ) (total i : ℕ) (k : Pricing h records count levels total i) where
   abbrev lines : List Line
   lines = lines_held records count
 
@@ -172,11 +173,11 @@ module _ (h : Header) (records : List (List ℕ)) (count : ℕ) (levels : List �
 
     -- the line that record i holds
     abbrev own : Line
-    own = line_of (get_or records i [])
+    own = line_of (get_or records i free_record)
 
     own_is : own ≡ line
-    unfolding line_of line_from
-    own_is = sym (get_or-map line_of records i [])
+    unfolding line_of
+    own_is = sym (get_or-map line_of records i free_record)
 
     own_facts : LineFacts Schedule h (take i lines) own
     own_facts = subst (LineFacts Schedule h (take i lines)) (sym own_is) facts

@@ -8,6 +8,7 @@ use Rattle.model.specs.declared.Kind.{Kind}
 use Rattle.model.specs.Scales.{header_in_range}
 use Rattle.model.specs.Files.{is_word, in_range, well_formed, is_ciphertext}
 use Rattle.model.specs.Rules.{KeepsRules}
+use Rattle.tables.specs.declared.Record.{Record}
 use Rattle.tables.specs.Records.{lines_held}
 use Rattle.prices.specs.Prices.{summed, starts_at}
 
@@ -46,7 +47,7 @@ level_after h (Us a b) l = l
 level_after h Free l = 0
 
 -- A table that holds a schedule whose lines keep the rules.
-pub record RuledTable (h : Header) (records : List (List ℕ)) (count : ℕ) : Type 0 where
+pub record RuledTable (h : Header) (records : List Record) (count : ℕ) : Type 0 where
   pub room : length records ≡ 1792
   pub few : count ≤ 1792
   pub formed : T (well_formed Schedule h (lines_held records count))
@@ -60,7 +61,7 @@ pub record OnLevel (h : Header) (x : Line) (l : ℕ) : Type 0 where
   pub low : taken x ≤ l
   pub high : l ≤ 60
 
--- the prices per level by kind of operation, which is the number of the word in a record; last that of a product with a constant
+-- the prices per level by kind of operation, which is the number of the word; last that of a product with a constant
 abbrev pub prices : List ℕ
 prices = 0 ∷ 0 ∷ 0 ∷ 1 ∷ 32 ∷ 1 ∷ 40 ∷ 0 ∷ 2 ∷ 6 ∷ 1 ∷ 4 ∷ 4 ∷ []
 

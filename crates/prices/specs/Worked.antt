@@ -1,9 +1,8 @@
 -- The price worked by hand: a schedule's header and lines, and its price. The levels are those that the check finds.
-use Rattle.std.specs.Prelude.{ℕ, Bool, true, false, ◌&&◌, List, [], ◌∷◌, eqb, pos, get_or}
+use Rattle.std.specs.Prelude.{ℕ, Bool, true, false, ◌&&◌, List, [], ◌∷◌, eqb, pos, get_or, None}
 use Rattle.model.specs.declared.Found.{Found}
 use Rattle.model.specs.declared.Found.TheVariants as Founds
 use Rattle.model.specs.declared.Header.{Header}
-use Rattle.model.specs.declared.Headroom.TheVariants.{None}
 use Rattle.model.specs.declared.Line.{Line}
 use Rattle.model.specs.declared.Line.TheVariants.{In, Const, Neg, Rot, Add, Mul, Out, Enc, Rs, Ms, Us}
 use Rattle.model.specs.Machine.{Run, finished, stopped, run}

@@ -8,10 +8,10 @@ ghost use Rattle.tables.specs.Records.{line_of, lines_held};
 ghost use Rattle.prices.specs.Prices.{summed, per_level, down_from, IsPrice};
 ghost use Rattle.prices.specs.Levels.{summed_starts, level_after, OnLevel, product_of, prices, RuledTable};
 
-use model::{Header, Kind};
+use model::{Header, Kind, Word};
 use tables::Record;
 
-// Price per level by kind of operation, which is the number of the line's word in its record: no word, `in`, `const`, `neg`, `rot`, `add`, `mul` of two
+// Price per level by kind of operation, which is the number of the line's word: no word, `in`, `const`, `neg`, `rot`, `add`, `mul` of two
 // ciphertexts, `out`, `enc`, `rs`, `ms`, `us`; and last `mul` with a constant.
 const PRICES: [u32; 13] = [0, 0, 0, 1, 32, 1, 40, 0, 2, 6, 1, 4, 4];
 
@@ -28,21 +28,25 @@ fn product(first: Kind, second: Kind) -> usize
 }
 
 // The kind of operation of a line, as its place among the prices.
+#[tactic(auto, using(crate::proofs::Laws::operation_laws))]
 fn operation(schedule: &[Record], count: usize, r: Record) -> usize
     requires count_in_bounds { count ≤ length schedule.now }
     requires t { T (is_word Schedule (line_of r)) }
     ensures result_value { get_or prices result 0 ≡ per_level (lines_held schedule.now count) (line_of r) }
     ensures small { result < 13 }
 {
-    if r[0] == 6 {
-        let first = tables::kind_at(schedule, count, r[1] as u64);
-        let second = tables::kind_at(schedule, count, r[2] as u64);
-        return product(first, second);
+    match r.word {
+        Word::Mul => {
+            let first = tables::kind_at(schedule, count, r.first as u64);
+            let second = tables::kind_at(schedule, count, r.second as u64);
+            product(first, second)
+        }
+        word => tables::number_of(word) as usize,
     }
-    r[0] as usize
 }
 
 // The price per level of a line.
+#[tactic(auto, using(crate::proofs::Laws::price_table))]
 fn per_level(schedule: &[Record], count: usize, r: Record) -> u32
     requires count_in_bounds { count ≤ length schedule.now }
     requires t { T (is_word Schedule (line_of r)) }
@@ -53,6 +57,7 @@ fn per_level(schedule: &[Record], count: usize, r: Record) -> u32
 }
 
 // A level and those below it, so many in all, summed.
+#[tactic(auto, using(crate::proofs::Laws::sum_laws))]
 fn summed_down(level: u32, count: u32) -> u32
     requires count_le_level { count ≤ level }
     requires level_bound { level ≤ 60 }
@@ -60,62 +65,58 @@ fn summed_down(level: u32, count: u32) -> u32
     ensures small { result ≤ 3600 }
 {
     let mut total: u32 = 0;
-    let mut done: u32 = 0;
-    while done < count {
+    for done in 0..count {
         total += level - done;
-        done += 1;
     }
     total
 }
 
 // The levels at which the operations of a line start, summed, where its operand has this level: of C rescales or modswitches each has its own.
+#[tactic(auto, using(crate::proofs::Laws::start_laws), unfolding(tables::specs::Records::line_of, crate::specs::Levels::summed_starts))]
 fn summed_starts(header: Header, r: Record, level: u32) -> u32
     requires { OnLevel header (line_of r) level }
     ensures value { result ≡ summed_starts (line_of r) level }
     ensures small { result ≤ 3600 }
 {
-    match r[0] {
-        1 => 0,
-        2 => 0,
-        7 => 0,
-        8 => r[3] as u32,
-        9 => summed_down(level, r[2] as u32),
-        10 => summed_down(level, r[2] as u32),
+    match r.word {
+        Word::In | Word::Const | Word::Out => 0,
+        Word::Enc => r.third as u32,
+        Word::Rs | Word::Ms => summed_down(level, r.second as u32),
         _ => level,
     }
 }
 
 // The level that a line has, where its operand has this one.
+#[tactic(auto, using(crate::proofs::Laws::after_laws), unfolding(tables::specs::Records::line_of))]
 fn level_after(header: Header, r: Record, level: u32) -> u32
     requires { OnLevel header (line_of r) level }
     ensures value { result ≡ level_after header (line_of r) level }
     ensures small { result ≤ 60 }
 {
-    match r[0] {
-        1 => header.top,
-        2 => 0,
-        8 => r[3] as u32,
-        9 => level - (r[2] as u32),
-        10 => level - (r[2] as u32),
+    match r.word {
+        Word::In => header.top,
+        Word::Const => 0,
+        Word::Enc => r.third as u32,
+        Word::Rs | Word::Ms => level - (r.second as u32),
         _ => level,
     }
 }
 
-// The price of the schedule. A line costs at most 40 times 3,600, so that of 1,792 lines the price has fewer than 32 bits.
+// The price of the schedule. That it keeps the rules is a clause and no ghost field: a field has to be a proposition, and the ways to keep them are data.
+// A line costs at most 40 times 3,600, so that of 1,792 lines the price has fewer than 32 bits.
+#[tactic(auto, using(crate::proofs::Pricing::price_laws))]
 pub fn table_price(header: Header, schedule: &[Record], count: usize) -> u32
     requires { RuledTable header schedule.now count }
     ensures { IsPrice header (lines_held schedule.now count) result }
 {
     let mut levels = [0u16; 1792];
     let mut price: u32 = 0;
-    let mut i: usize = 0;
-    while i < count {
+    for i in 0..count {
         let record = schedule[i];
         let a = operands::first_of(record) as usize;
         let level = levels[a] as u32;
         price += per_level(schedule, count, record) * summed_starts(header, record, level);
         levels[i] = level_after(header, record, level) as u16;
-        i += 1;
     }
     price
 }

@@ -1,5 +1,5 @@
 -- The quote, step by step: what each return says, from the tests on the way and what the callees ensure. Assumes nothing.
-use Prim.Native.Nat.{ℕ, suc, ◌+◌, ◌≤◌}
+use Prim.Native.Nat.{ℕ, suc, ◌≤◌}
 use mathlib.Core.Path.{◌≡◌, sym, ap, ◌∙◌, subst}
 use mathlib.Core.List.{List}
 use borrow.Author.Rules.{rules}
@@ -7,7 +7,6 @@ use lib.ListN.{length, length-map}
 use Rattle.fields.specs.Pieces.{Bytes}
 use Rattle.rows.specs.Rows.{read}
 use Rattle.model.specs.declared.Grammar.TheVariants.{Schedule}
-use Rattle.model.specs.declared.Header.{Header}
 use Rattle.model.specs.Files.{File}
 use Rattle.model.specs.Services.{scheduled, plan}
 use Rattle.model.proofs.Theorems as Model
@@ -15,16 +14,17 @@ use Rattle.text.specs.Files.{read_text, circuit_context, file_text}
 use Rattle.text.specs.Tables.{file_of}
 use Rattle.text.proofs.Tables.{count_length}
 use Rattle.text.proofs.FileLaws.{file_read_written}
+use Rattle.tables.specs.declared.Record.{Record}
 use Rattle.tables.specs.Records.{line_of, held}
 use Rattle.tables.proofs.Records.{still_long}
-use Rattle.reader.specs.declared.FileRead.{FileRead}
-use Rattle.reader.specs.declared.FileRead.TheVariants.{Table, Refused}
-use Rattle.reader.specs.Reads.{reading_of}
-use Rattle.reader.proofs.Answers.{read_refused, read_file_lem, circuit_formed}
-use Rattle.plantable.specs.declared.Planned.{Planned}
-use Rattle.plantable.specs.declared.Planned.TheVariants.{Lines, TooFew}
+use Rattle.std.specs.Prelude.{Result, Ok, Err, IfOk}
+use Rattle.std.proofs.lemmas.Result.{IfOk-at_ok}
+use Rattle.model.specs.declared.Refusal.{Refusal}
+use Rattle.model.specs.Refusals.{number_of}
+use Rattle.tables.specs.declared.files.CircuitTable.{CircuitTable}
+use Rattle.tables.specs.Files.{circuit_held}
+use Rattle.reader.specs.Reads.{circuit_told}
 use Rattle.plantable.specs.Plans.{planned_of}
-use Rattle.plantable.proofs.Told.{lines_few, place_fits}
 use Rattle.services.specs.Outcomes.{Outcome, refuses}
 use Rattle.services.specs.Calls.{planned, plan_outcome}
 use Rattle.services.specs.Promises.{Plans}
@@ -46,35 +46,34 @@ as_planned circuit r e c = quote_promise circuit r (subst (λ (o : Outcome). Quo
 refused_as : (circuit : Bytes) (r : QuoteReply) (n f p : ℕ) → r ≡ refusal_reply n f p → QuoteComesTo circuit (refuses n f p) r
 refused_as circuit r n f p e = subst (QuoteComesTo circuit (refuses n f p)) (sym e) (unplanned n f p)
 
-module _
-    (circuit : Bytes) (file : FileRead) (records : List (List ℕ)) (q : reading_of file records ≡ read_text circuit_context circuit) where
-  pub quote_unread : (r : QuoteReply) (n p : ℕ) → file ≡ Refused n p → r ≡ refusal_reply n 1 p → QuotePromise circuit r
-  quote_unread r n p is e =
-      as_planned circuit r (once_refused 1 (λ f. planned (plan f)) n p (read_refused circuit_context circuit file records q n p is)) (refused_as circuit r n 1 p e)
+module _ (circuit : Bytes) (file : Result CircuitTable Refusal) (q : circuit_told file ≡ read_text circuit_context circuit) where
+  pub quote_unread : (r : QuoteReply) (x : Refusal) → file ≡ Err x → r ≡ refusal_reply (number_of x.fault) 1 x.place → QuotePromise circuit r
+  quote_unread r x is e =
+      as_planned circuit r (once_refused 1 (λ f. planned (plan f)) (number_of x.fault) x.place (sym q ∙ ap circuit_told is)) (refused_as circuit r (number_of x.fault) 1 x.place e)
 
   module _
-      (h : Header) (count : ℕ) (is : file ≡ Table h count) (w : Planned) (schedule : List (List ℕ))
-      (k : planned_of h schedule w ≡ plan (file_of (held h records count))) where
-    reads : read_text circuit_context circuit ≡ read (file_of (held h records count))
-    reads = read_file_lem circuit_context circuit file records q h count is
+      (t : CircuitTable) (is : file ≡ Ok t) (w : Result ℕ Refusal) (schedule : List Record)
+      (k : planned_of t.header schedule w ≡ plan (file_of (circuit_held t))) where
+    reads : read_text circuit_context circuit ≡ read (file_of (circuit_held t))
+    reads = sym q ∙ ap circuit_told is
 
-    outcome_is : (v : Planned) → w ≡ v → planned (planned_of h schedule v) ≡ plan_outcome circuit
+    outcome_is : (v : Result ℕ Refusal) → w ≡ v → planned (planned_of t.header schedule v) ≡ plan_outcome circuit
     outcome_is v e =
-        ap planned (ap (planned_of h schedule) (sym e) ∙ k) ∙ once_read_lem 1 (λ f. planned (plan f)) (file_of (held h records count)) reads
+        ap planned (ap (planned_of t.header schedule) (sym e) ∙ k) ∙ once_read_lem 1 (λ f. planned (plan f)) (file_of (circuit_held t)) reads
 
-    pub quote_too_few : (r : QuoteReply) (i : ℕ) → w ≡ TooFew i → r ≡ refusal_reply 6 1 (i + 2) → QuotePromise circuit r
-    quote_too_few r i n e = as_planned circuit r (outcome_is (TooFew i) n) (refused_as circuit r 6 1 (i + 2) e)
+    pub quote_too_few : (r : QuoteReply) (x : Refusal) → w ≡ Err x → r ≡ refusal_reply (number_of x.fault) 1 x.place → QuotePromise circuit r
+    quote_too_few r x n e = as_planned circuit r (outcome_is (Err x) n) (refused_as circuit r (number_of x.fault) 1 x.place e)
 
-    module _ (size : ℕ) (n : w ≡ Lines size) (room : length schedule ≡ 1792) (few : size ≤ 1792) where
+    module _ (size : ℕ) (n : w ≡ Ok size) (room : length schedule ≡ 1792) (few : size ≤ 1792) where
       abbrev written : File
-      written = file_of (held h schedule size)
+      written = file_of (held t.header schedule size)
 
-      is_plan : plan (file_of (held h records count)) ≡ scheduled written
-      is_plan = sym k ∙ ap (planned_of h schedule) n
+      is_plan : plan (file_of (circuit_held t)) ≡ scheduled written
+      is_plan = sym k ∙ ap (planned_of t.header schedule) n
 
-      pub ruled : RuledTable h schedule size
+      pub ruled : RuledTable t.header schedule size
       ruled =
-          let passed = (Model.the_plan (file_of (held h records count)) (file_read_written circuit_context circuit reads).formed written is_plan).passed in
+          let passed = (Model.the_plan (file_of (circuit_held t)) (file_read_written circuit_context circuit reads).formed written is_plan).passed in
           record { room = room; few = few; formed = passed.schedule_formed; keeps = passed.keeps }
 
       -- the file that the plan's text reads to is the table's
@@ -84,7 +83,7 @@ module _
           let table : plan p.passed.files.circuit_file ≡ scheduled written = ap plan (one_file p.passed.files.circuit_reads reads) ∙ is_plan in
           cc
 
-      module _ (r : QuoteReply) (c : CountsTable h schedule size r) where
+      module _ (r : QuoteReply) (c : CountsTable t.header schedule size r) where
         counted_quote : Quotes circuit (file_text Schedule written) r
         counted_quote =
             let p = plans_text circuit reads is_plan in
@@ -93,16 +92,19 @@ module _
               number_is = c.number_is;
               file_is = c.file_is;
               place_is = c.place_is;
-              lines_are = c.lines_are ∙ ap suc (sym (count_length (held h schedule size) (length-map schedule line_of ∙ room) few)) ∙ sym (text_feeds written);
+              lines_are = c.lines_are ∙ ap suc (sym (count_length (held t.header schedule size) (length-map schedule line_of ∙ room) few)) ∙ sym (text_feeds written);
               bytes_are = c.bytes_are;
               price_is = subst (λ (f : File). IsPrice f.header f.lines r.price) (same_file p) c.price_is;
             }
 
         pub quote_lines : QuotePromise circuit r
-        quote_lines = as_planned circuit r (outcome_is (Lines size) n) (quoted (file_text Schedule written) r counted_quote)
+        quote_lines = as_planned circuit r (outcome_is (Ok size) n) (quoted (file_text Schedule written) r counted_quote)
+
+pub lines_few : (w : Result ℕ Refusal) → IfOk w (λ n. n ≤ 1792) → (n : ℕ) → w ≡ Ok n → n ≤ 1792
+lines_few w few n e = IfOk-at_ok (λ (k : ℕ). k ≤ 1792) e few
 
 -- what is asked on the way, and what is returned, refused or counted
-pub ruleset quote_needs = (rules, still_long, circuit_formed, lines_few, place_fits, ruled)
+pub ruleset quote_needs = (rules, still_long, lines_few, ruled)
 
 pub ruleset quote_refusals = (quote_unread, quote_too_few)
 

@@ -2,13 +2,12 @@
 #![tactic(auto)]
 
 ghost use Rattle.std.specs.Prelude.{◌≡◌};
+ghost use Rattle.model.specs.Refusals.{number_of};
 ghost use Rattle.prices.specs.Levels.{RuledTable};
 ghost use Rattle.quotes.specs.Quotes.{QuotePromise};
 ghost use Rattle.quotes.specs.Counts.{refusal_reply, CountsTable};
 
-use model::Header;
-use plantable::Planned;
-use reader::FileRead;
+use model::{Header, Refusal};
 use tables::Record;
 
 // A refusal's number, file and place, or 0 for all three and what is quoted.
@@ -24,13 +23,14 @@ pub struct QuoteReply {
 }
 
 // The planner's own refusal, at a line of the circuit.
-fn refusal(number: u32, place: u32) -> QuoteReply
-    ensures { result ≡ refusal_reply number 1 place }
+fn refusal(refused: Refusal) -> QuoteReply
+    ensures { result ≡ refusal_reply (number_of refused.fault) 1 refused.place }
 {
+    let fault = refused.fault;
     QuoteReply {
-        number: number,
+        number: fault.number(),
         file: 1,
-        place: place,
+        place: refused.place,
         lines: 0,
         bytes: 0,
         price: 0,
@@ -55,17 +55,18 @@ fn counted(header: Header, schedule: &[Record], count: usize) -> QuoteReply
 }
 
 // Quotes the plan of a circuit.
+#[tactic(auto, using(crate::proofs::Laws::quote_needs, crate::proofs::Laws::quote_refusals, crate::proofs::Laws::quote_counts))]
 pub fn quote(circuit: &[u8]) -> QuoteReply
     ensures { QuotePromise circuit.now result }
 {
     let mut records = [tables::FREE; 1792];
-    match reader::read_circuit(circuit, &mut records) {
-        FileRead::Refused { number, place } => refusal(number, place),
-        FileRead::Table { header, count } => {
+    match reader::lend_circuit(circuit, &mut records) {
+        Err(refused) => refusal(refused),
+        Ok(table) => {
             let mut schedule = [tables::FREE; 1792];
-            match plantable::plan_table(header, &records, count, &mut schedule) {
-                Planned::TooFew { line } => refusal(6, line + 2),
-                Planned::Lines(length) => counted(header, &schedule, length),
+            match plantable::plan_table(&table, &mut schedule) {
+                Err(too_few) => refusal(too_few),
+                Ok(length) => counted(table.header, &schedule, length),
             }
         }
     }

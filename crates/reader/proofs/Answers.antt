@@ -21,47 +21,50 @@ use Rattle.text.proofs.Theorems as Text
 use Rattle.listings.specs.Listings.{Listing, as_lines, read_listing}
 use Rattle.listings.specs.Held.{held_lines, held_reading, counted_line, counted_table}
 use Rattle.listings.proofs.Texts.{listing_facts}
+use Rattle.tables.specs.declared.Record.{Record}
 use Rattle.tables.specs.Records.{lines_of, lines_held, held}
-use Rattle.reader.specs.declared.FileRead.{FileRead}
-use Rattle.reader.specs.declared.FileRead.TheVariants.{Table, Refused}
+use Rattle.std.specs.Prelude.{Result, Ok, Err}
+use Rattle.model.specs.declared.Refusal.{Refusal}
+use Rattle.model.specs.Refusals.{number_of}
+use Rattle.reader.specs.declared.FileTable.{FileTable}
 use Rattle.reader.specs.Reads.{reading_of, Filled}
 
-module _ (c : Context) (text : Bytes) (r : FileRead) (records : List (List ℕ)) (q : reading_of r records ≡ read_text c text) where
-  pub read_refused : (n p : ℕ) → r ≡ Refused n p → read_text c text ≡ refused n p
-  read_refused n p e = sym q ∙ ap (λ (x : FileRead). reading_of x records) e
+module _ (c : Context) (text : Bytes) (r : Result FileTable Refusal) (records : List Record) (q : reading_of r records ≡ read_text c text) where
+  pub read_refused : (x : Refusal) → r ≡ Err x → read_text c text ≡ refused (number_of x.fault) x.place
+  read_refused x e = sym q ∙ ap (λ (x : Result FileTable Refusal). reading_of x records) e
 
-  pub read_file_lem : (h : Header) (count : ℕ) → r ≡ Table h count → read_text c text ≡ read (file_of (held h records count))
-  read_file_lem h count e = sym q ∙ ap (λ (x : FileRead). reading_of x records) e
+  pub read_file_lem : (h : Header) (count : ℕ) → r ≡ Ok (record { header = h; count = count }) → read_text c text ≡ read (file_of (held h records count))
+  read_file_lem h count e = sym q ∙ ap (λ (x : Result FileTable Refusal). reading_of x records) e
 
-pub few_read : (limit : ℕ) (r : FileRead) (records : List (List ℕ)) (h : Header) (count : ℕ) → r ≡ Table h count → Filled limit r records → count ≤ limit
-few_read limit r records h count e f = f.few h count e
+pub few_read : (limit : ℕ) (r : Result FileTable Refusal) (records : List Record) (h : Header) (count : ℕ) → r ≡ Ok (record { header = h; count = count }) → Filled limit r records → count ≤ limit
+few_read limit r records h count e f = f.few (record { header = h; count = count }) e
 
-module _ (text : Bytes) (r : FileRead) (records : List (List ℕ)) (h : Header) (count : ℕ) (e : r ≡ Table h count) where
+module _ (text : Bytes) (r : Result FileTable Refusal) (records : List Record) (h : Header) (count : ℕ) (e : r ≡ Ok (record { header = h; count = count })) where
   pub circuit_formed : reading_of r records ≡ read_text circuit_context text → Filled 256 r records → TableFormed Circuit (held h records count)
   circuit_formed q f =
-      let few = f.few h count e in
-      (Text.text_and_table).circuits.table_read text (held h records count) (f.free h count e) (omega arith) (read_file_lem circuit_context text r records q h count e)
+      let few = f.few (record { header = h; count = count }) e in
+      (Text.text_and_table).circuits.table_read text (held h records count) (f.free (record { header = h; count = count }) e) (omega arith) (read_file_lem circuit_context text r records q h count e)
 
   pub schedule_formed : reading_of r records ≡ read_text schedule_context text → Filled 1792 r records → TableFormed Schedule (held h records count)
   schedule_formed q f =
-      (Text.text_and_table).schedules.table_read text (held h records count) (f.free h count e) (f.few h count e) (read_file_lem schedule_context text r records q h count e)
+      (Text.text_and_table).schedules.table_read text (held h records count) (f.free (record { header = h; count = count }) e) (f.few (record { header = h; count = count }) e) (read_file_lem schedule_context text r records q h count e)
 
   pub erasing_formed : reading_of r records ≡ read_text erase_context text → Filled 1792 r records → TableFormed Schedule (held h records count)
   erasing_formed q f =
-      (Text.text_and_table).erasing.table_read text (held h records count) (f.free h count e) (f.few h count e) (read_file_lem erase_context text r records q h count e)
+      (Text.text_and_table).erasing.table_read text (held h records count) (f.free (record { header = h; count = count }) e) (f.few (record { header = h; count = count }) e) (read_file_lem erase_context text r records q h count e)
 
 -- ---- a listing
 -- the listing that a table holds
-pub record ListingRead (text : Bytes) (h : Header) (records : List (List ℕ)) (count : ℕ) : Type 0 where
+pub record ListingRead (text : Bytes) (h : Header) (records : List Record) (count : ℕ) : Type 0 where
   pub listing : Listing
   pub reads : read_listing text ≡ read listing
   pub header_is_lem : listing.header ≡ h
   pub lines_are_lem : lines_held records count ≡ held_lines h listing.lines
 
-module _ (text : Bytes) (r : FileRead) (records : List (List ℕ)) (q : reading_of r records ≡ held_reading (read_listing text)) where
-  module _ (h : Header) (count : ℕ) (e : r ≡ Table h count) where
+module _ (text : Bytes) (r : Result FileTable Refusal) (records : List Record) (q : reading_of r records ≡ held_reading (read_listing text)) where
+  module _ (h : Header) (count : ℕ) (e : r ≡ Ok (record { header = h; count = count })) where
     pub listing_read : ListingRead text h records count
-    listing_read = go (read_listing text) refl (sym (ap (λ (x : FileRead). reading_of x records) e) ∙ q)
+    listing_read = go (read_listing text) refl (sym (ap (λ (x : Result FileTable Refusal). reading_of x records) e) ∙ q)
       where
         go : (k : Reading Listing) → read_listing text ≡ k → read (file_of (held h records count)) ≡ held_reading k → ListingRead text h records count
         go (read l) u v =
@@ -78,8 +81,8 @@ module _ (text : Bytes) (r : FileRead) (records : List (List ℕ)) (q : reading_
     -- with counts that a schedule's lines can have, the table is a schedule's
     pub listing_formed : Filled 1792 r records → TableFormed Schedule (counted_table (held h records count))
     listing_formed f =
-        let few = f.few h count e in
-        let free = f.free h count e in
+        let few = f.few (record { header = h; count = count }) e in
+        let free = f.free (record { header = h; count = count }) e in
         record {
           few = le→leb count 1792 few;
           room = length-map (lines_of records) counted_line ∙ free.room;

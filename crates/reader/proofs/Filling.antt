@@ -29,24 +29,29 @@ use Rattle.listings.specs.Listings.{Listed, Listing, ListedWord, word_fields, li
 use Rattle.forms.specs.Along.{line_in, is_closed, after_line, numbers_in}
 use Rattle.forms.proofs.TextLaws.{Past, past_line}
 use Rattle.tables.specs.Records as Records
-use Rattle.tables.specs.Records.{word_number, line_with, lines_held, free_records}
+use Rattle.tables.specs.declared.Record.{Record}
+use Rattle.tables.specs.Records.{line_of, lines_held, free_records}
 use Rattle.tables.proofs.Records.{free_long, none_stored, stored_free}
 use Rattle.tables.proofs.HeldLines.{stored_lines}
-use Rattle.tables.proofs.Words.{word_with, record_line}
+use Rattle.tables.proofs.Words.{record_word}
 use Rattle.words.specs.declared.WordAt.{WordAt}
 use Rattle.words.specs.Words.{listed_in, held_word, word_found, listed_word, past_word}
 use Rattle.words.proofs.WordLaws.{found_listed}
-use Rattle.judging.specs.declared.LineRead.{LineRead}
-use Rattle.judging.specs.declared.LineRead.TheVariants.{Good, Bad}
+use Rattle.judging.specs.declared.StoredLine.{StoredLine}
+use Rattle.std.specs.Prelude.{Result, Ok, Err}
+use Rattle.model.specs.declared.Fault.{Fault}
+use Rattle.model.specs.declared.Fault.TheVariants.{TooManyLines}
+use Rattle.model.specs.declared.Refusal.{Refusal}
+use Rattle.model.specs.Refusals.{number_of}
+use Rattle.reader.specs.declared.FileTable.{FileTable}
 use Rattle.judging.specs.Judging.{line_read, line_to}
 use Rattle.lines.specs.Lines.{held_as, tested_as, listed_tests, line_form_of, judgement_held, word_judged, line_judged}
 use Rattle.lines.proofs.LineLaws.{kinds_held, kept_held, word_alike, line_by_word, line_past_word}
-use Rattle.reader.specs.declared.FileRead.TheVariants.{Table, Refused}
 use Rattle.reader.specs.Reads.{past_limits, kept_with, next_line, rest_from, reading_held, reading_of, Filled}
 use Rattle.reader.proofs.LineLaws.{kept_more, too_many_by, no_line_lem, one_line_lem}
 
 -- The loop's invariant: with the lines of the records read and the text from `at` on left, reading comes to what the whole text comes to.
-pub record Filling (levels : Levels) (c : Context) (h : Header) (s : Bytes) (start : ℕ) (records : List (List ℕ)) (count kept at : ℕ) : Type 0 where
+pub record Filling (levels : Levels) (c : Context) (h : Header) (s : Bytes) (start : ℕ) (records : List Record) (count kept at : ℕ) : Type 0 where
   pub ranged : T (header_in_range h)
   pub small : c.limit ≤ 1792
   pub few : count ≤ c.limit
@@ -113,25 +118,24 @@ taken_closed levels c h done t {x} e = go (is_closed t) e
 
 -- ---- what is said of the records at a return
 pub filled_table :
-    (limit : ℕ) (h : Header) (records : List (List ℕ)) (count : ℕ) → count ≤ limit → RestFree (Records.held h records count) → Filled limit (Table h count) records
+    (limit : ℕ) (h : Header) (records : List Record) (count : ℕ) → count ≤ limit → RestFree (Records.held h records count) → Filled limit (Ok (record { header = h; count = count })) records
 filled_table limit h records count few free =
     record {
-      few = λ k n e. let same : count ≡ n = cc in omega arith;
-      free = λ k n e.
-          let headers : h ≡ k = cc in
-          let counts : count ≡ n = cc in
-          subst (λ (x : Header). RestFree (Records.held x records n)) headers (subst (λ (m : ℕ). RestFree (Records.held h records m)) counts free);
+      few = λ t e. let same : ◌≡◌ {A = FileTable} (record { header = h; count = count }) t = cc in omega (arith, ap (λ (x : FileTable). x.count) same);
+      free = λ t e.
+          let same : ◌≡◌ {A = FileTable} (record { header = h; count = count }) t = cc in
+          subst (λ (x : FileTable). RestFree (Records.held x.header records x.count)) same free;
     }
 
-pub filled_refused : (limit n place : ℕ) (records : List (List ℕ)) → Filled limit (Refused n place) records
-filled_refused limit n place records =
+pub filled_refused : (limit : ℕ) (r : Refusal) (records : List Record) → Filled limit (Err r) records
+filled_refused limit r records =
     record {
-      few = λ h count e. absurd (let z : ◌≡◌ {A = ℕ} 0 1 = cc in omega arith);
-      free = λ h count e. absurd (let z : ◌≡◌ {A = ℕ} 0 1 = cc in omega arith);
+      few = λ t e. absurd (let z : ◌≡◌ {A = ℕ} 0 1 = cc in omega arith);
+      free = λ t e. absurd (let z : ◌≡◌ {A = ℕ} 0 1 = cc in omega arith);
     }
 
 pub begin :
-    (levels : Levels) (c : Context) (h : Header) (s : Bytes) (start : ℕ) (records : List (List ℕ)) → T (header_in_range h) → c.limit ≤ 1792 → start ≤ length s →
+    (levels : Levels) (c : Context) (h : Header) (s : Bytes) (start : ℕ) (records : List Record) → T (header_in_range h) → c.limit ≤ 1792 → start ≤ length s →
     records ≡ free_records → Filling levels c h s start records 0 0 start
 begin levels c h s start records ranged small inside free =
     record {
@@ -159,7 +163,7 @@ found_formed levels t at found is =
     found_end : past_word at (listed_in levels t) ≡ found.end
     found_end = sym (ap (λ (f : WordAt). f.end) is)
 
-module _ {levels : Levels} {c : Context} {h : Header} {s : Bytes} {start : ℕ} {records : List (List ℕ)} {count kept at : ℕ}
+module _ {levels : Levels} {c : Context} {h : Header} {s : Bytes} {start : ℕ} {records : List Record} {count kept at : ℕ}
     (f : Filling levels c h s start records count kept at) where
   lines_held_lem : length (lines_held records count) ≡ count
   lines_held_lem = length-take-le count (Records.lines_of records) (omega (arith, f.free.room, f.few, f.small))
@@ -183,14 +187,14 @@ module _ {levels : Levels} {c : Context} {h : Header} {s : Bytes} {start : ℕ} 
   pub rest_free : RestFree (Records.held h records count)
   rest_free = f.free
 
-  pub still_long : (given : List (List ℕ)) → given ≡ free_records → length records ≡ length given
+  pub still_long : (given : List Record) → given ≡ free_records → length records ≡ length given
   still_long given free = f.long ∙ sym (free_long given free)
 
   pub few_lines : count ≤ c.limit
   few_lines = f.few
 
   -- no text is left: the table is the file
-  pub all_read : length s ≤ at → reading_of (Table h count) records ≡ reading_held levels (rest_from levels c h [] (lines_of (drop start s)))
+  pub all_read : length s ≤ at → reading_of (Ok (record { header = h; count = count })) records ≡ reading_held levels (rest_from levels c h [] (lines_of (drop start s)))
   all_read end =
       ap (λ (l : List Line). read (record { header = h; lines = l })) f.stored
       ∙ ap (reading_held levels) (sym (no_line_lem levels c h f.rows) ∙ ap (λ (rest : Bytes). rest_from levels c h f.rows (lines_of rest)) (sym (drop_of_length-le s end)) ∙ f.left)
@@ -229,12 +233,12 @@ module _ {levels : Levels} {c : Context} {h : Header} {s : Bytes} {start : ℕ} 
     comes_to j e = ap (reading_held levels) (reading ∙ ap (λ (k : Judgement Listed). Rows.at (place_of count) k after) e)
 
     -- one line too many
-    pub too_many_lem : over ≡ true → reading_of (Refused 3 (count + 2)) records ≡ reading_held levels (rest_from levels c h [] (lines_of (drop start s)))
+    pub too_many_lem : over ≡ true → reading_of (Err (record { fault = TooManyLines; place = count + 2 })) records ≡ reading_held levels (rest_from levels c h [] (lines_of (drop start s)))
     unfolding next_line
     too_many_lem e = sym (comes_to (bad 3) (rw (limits, e)))
 
-    module _ (within : over ≡ false) (got : LineRead)
-        (told : line_read found.word got ≡ line_to (place_of count) (found.end + length (line_in (drop found.end s)) + 1)
+    module _ (within : over ≡ false) (got : Result StoredLine Fault)
+        (told : line_read (place_of count) got ≡ line_to (place_of count) (found.end + length (line_in (drop found.end s)) + 1)
         (word_judged levels c.grammar h (lines_held records count) v (drop found.end s))) where
       abbrev end : ℕ
       end = found.end + length (line_in (drop found.end s)) + 1
@@ -256,17 +260,23 @@ module _ {levels : Levels} {c : Context} {h : Header} {s : Bytes} {start : ℕ} 
       within_limits = limits ∙ within
 
       -- a line that is refused
-      pub line_refused : (n p : ℕ) → got ≡ Bad n p → reading_of (Refused n p) records ≡ reading_held levels (rest_from levels c h [] (lines_of (drop start s)))
-      line_refused n p e =
-          let line = refused_line_lem (place_of count) end judged (sym (ap (line_read found.word) e) ∙ told) in
+      pub line_refused : (k : Fault) → got ≡ Err k → reading_of (Err (record { fault = k; place = count + 2 })) records ≡ reading_held levels (rest_from levels c h [] (lines_of (drop start s)))
+      line_refused k e =
+          let line = refused_line_lem (place_of count) end judged (sym (ap (line_read (place_of count)) e) ∙ told) in
           let next = held_bad levels h (next_line levels c h f.rows (drop at s)) (next_by_word ∙ line.judged) in
-          sym (comes_to (bad n) next ∙ ap (refused n) (sym line.where_it_is))
+          sym (comes_to (bad (number_of k)) next)
 
-      module _ (a b d e : ℕ) (good-line : got ≡ Good a b d e) where
-        line : TakenLine end e (line_with found.word a b d) judged
-        line = taken_line (place_of count) end judged (sym (ap (line_read found.word) good-line) ∙ told)
+      module _ (m : StoredLine) (good-line : got ≡ Ok m) where
+        abbrev x : Line
+        x = line_of m.held
 
-        next : HeldGood levels h (line_with found.word a b d) (next_line levels c h f.rows (drop at s))
+        abbrev e : ℕ
+        e = m.end
+
+        line : TakenLine end e x judged
+        line = taken_line (place_of count) end judged (sym (ap (line_read (place_of count)) good-line) ∙ told)
+
+        next : HeldGood levels h x (next_line levels c h f.rows (drop at s))
         next = held_good levels h (next_line levels c h f.rows (drop at s)) (next_by_word ∙ line.judged)
 
         past_line_feed : e ≡ at + suc (length (line_in (drop at s)))
@@ -298,25 +308,24 @@ module _ {levels : Levels} {c : Context} {h : Header} {s : Bytes} {start : ℕ} 
         pub kept_room : kept < 1792
         kept_room = omega (arith, line_room, lines_held_lem, f.counted, kept_most (lines_held records count))
 
-        module _ (n : ℕ) (number : n ≡ word_number found.word) (kept' : ℕ) (counted : kept' ≡ kept_with kept (has_word Circuit found.word)) where
-          lines_more : lines_held (set records count (n ∷ a ∷ b ∷ d ∷ [])) (count + 1) ≡ lines_held records count ++ (line_with found.word a b d ∷ [])
-          lines_more =
-              stored_lines records count (n ∷ a ∷ b ∷ d ∷ []) (line_with found.word a b d) (omega (arith, line_room, f.long)) (record_line found.word n a b d number)
+        module _ (kept' : ℕ) (counted : kept' ≡ kept_with kept (has_word Circuit m.held.word)) where
+          lines_more : lines_held (set records count m.held) (count + 1) ≡ lines_held records count ++ (x ∷ [])
+          lines_more = stored_lines records count m.held x (omega (arith, line_room, f.long)) refl
 
-          kept_as_lem : kept_count (lines_held records count ++ (line_with found.word a b d ∷ [])) ≡ kept_with kept (has_word Circuit found.word)
+          kept_as_lem : kept_count (lines_held records count ++ (x ∷ [])) ≡ kept_with kept (has_word Circuit m.held.word)
           kept_as_lem =
-              kept_more (lines_held records count) (line_with found.word a b d)
-              ∙ ap₂ (λ (k : ℕ) (w : Word). kept_with k (has_word Circuit w)) (sym f.counted) (word_with found.word a b d)
+              kept_more (lines_held records count) x
+              ∙ ap₂ (λ (k : ℕ) (w : Word). kept_with k (has_word Circuit w)) (sym f.counted) (record_word m.held)
 
           -- a line that is taken, stored
-          pub line_stored : Filling levels c h s start (set records count (n ∷ a ∷ b ∷ d ∷ [])) (count + 1) kept' e
+          pub line_stored : Filling levels c h s start (set records count m.held) (count + 1) kept' e
           line_stored =
               record {
                 ranged = f.ranged;
                 small = f.small;
                 few = omega (arith, below);
-                long = length-set records count (n ∷ a ∷ b ∷ d ∷ []) ∙ f.long;
-                free = stored_free h records count (n ∷ a ∷ b ∷ d ∷ []) f.free;
+                long = length-set records count m.held ∙ f.long;
+                free = stored_free h records count m.held f.free;
                 counted = counted ∙ sym kept_as_lem ∙ ap kept_count (sym lines_more);
                 within = omega (arith, past_line_feed, closed_text.within, length-drop at s);
                 rows = f.rows ++ (next.row ∷ []);

@@ -18,14 +18,15 @@ use Rattle.text.specs.declared.Context.{Context}
 use Rattle.listings.specs.declared.Levels.{Levels}
 use Rattle.forms.specs.Along.{line_in, is_closed, after_line}
 use Rattle.forms.proofs.TextLaws.{Past, past_line}
-use Rattle.headers.specs.declared.HeaderRead.{HeaderRead}
-use Rattle.headers.specs.declared.HeaderRead.TheVariants.{Head, Bad}
-use Rattle.headers.specs.Headers.{header_form_of, header_read, header_to, header_judged}
-use Rattle.reader.specs.declared.FileRead.{FileRead}
-use Rattle.reader.specs.declared.FileRead.TheVariants.{Refused}
+use Rattle.std.specs.Prelude.{Result, Ok, Err}
+use Rattle.model.specs.declared.Refusal.{Refusal}
+use Rattle.model.specs.Refusals.{number_of, told}
+use Rattle.reader.specs.declared.FileTable.{FileTable}
+use Rattle.headers.specs.Headers.{header_form_of, header_to, header_judged}
 use Rattle.reader.specs.Reads.{rest_from, reading_held, read_by, reading_of}
 use Rattle.reader.proofs.LineLaws.{header_line, read_by_lem}
 use Rattle.reader.proofs.Filling.{filled_refused}
+use Rattle.tables.specs.declared.Record.{Record}
 
 -- ---- what an answer says of the header line
 record RefusedHeader (n p : ℕ) (j : Judgement Header) : Type 0 where
@@ -62,22 +63,22 @@ header_taken levels c t {h} e = go (is_closed t) refl e
         }
     go false q v = absurd (let z : ◌≡◌ {A = ℕ} 0 1 = cc in omega arith)
 
-module _ (levels : Levels) (c : Context) (t : Bytes) (records : List (List ℕ)) (got : HeaderRead)
-    (told : header_read got ≡ header_to (length (line_in t) + 1) (header_judged levels c.grammar t)) where
+module _ (levels : Levels) (c : Context) (t : Bytes) (records : List Record) (got : Result (Header × ℕ) Refusal)
+    (said : told got ≡ header_to (length (line_in t) + 1) (header_judged levels c.grammar t)) where
   comes_to : (j : Judgement Header) → header_judged levels c.grammar t ≡ j
       → read_by levels c t ≡ reading_held levels (Rows.at 1 j (λ h. rest_from levels c h [] (lines_of (after_line t))))
   comes_to j e =
       sym (read_by_lem levels c t)
       ∙ ap (reading_held levels) (header_line levels c t ∙ ap (λ (k : Judgement Header). Rows.at 1 k (λ h. rest_from levels c h [] (lines_of (after_line t)))) e)
 
-  pub header_refused : (n p : ℕ) → got ≡ Bad n p → reading_of (Refused n p) records ≡ read_by levels c t
-  header_refused n p e =
-      let header = refused_header (length (line_in t) + 1) (header_judged levels c.grammar t) (sym (ap header_read e) ∙ told) in
-      sym (comes_to (bad n) header.judged ∙ ap (refused n) (sym header.where_it_is))
+  pub header_refused : (x : Refusal) → got ≡ Err x → reading_of (Err x) records ≡ read_by levels c t
+  header_refused x e =
+      let header = refused_header (length (line_in t) + 1) (header_judged levels c.grammar t) (sym (ap told e) ∙ said) in
+      sym (comes_to (bad (number_of x.fault)) header.judged ∙ ap (refused (number_of x.fault)) (sym header.where_it_is))
 
-  module _ (h : Header) (end : ℕ) (e : got ≡ Head h end) where
+  module _ (h : Header) (end : ℕ) (e : got ≡ Ok (h, end)) where
     header : TakenHeader (length (line_in t) + 1) end h (header_judged levels c.grammar t)
-    header = taken_header (length (line_in t) + 1) (header_judged levels c.grammar t) (sym (ap header_read e) ∙ told)
+    header = taken_header (length (line_in t) + 1) (header_judged levels c.grammar t) (sym (ap told e) ∙ said)
 
     past : Past t
     past = past_line t (header_taken levels c t header.judged).closes
@@ -88,7 +89,7 @@ module _ (levels : Levels) (c : Context) (t : Bytes) (records : List (List ℕ))
     pub header_within : end ≤ length t
     header_within = omega (arith, header.where_it_ends, past.within)
 
-    pub lines_read : (r : FileRead) (filled : List (List ℕ)) → reading_of r filled ≡ reading_held levels (rest_from levels c h [] (lines_of (drop end t)))
+    pub lines_read : (r : Result FileTable Refusal) (filled : List Record) → reading_of r filled ≡ reading_held levels (rest_from levels c h [] (lines_of (drop end t)))
         → reading_of r filled ≡ read_by levels c t
     lines_read r filled q =
         let same : suc (length (line_in t)) ≡ end = omega (arith, header.where_it_ends) in

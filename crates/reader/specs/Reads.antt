@@ -1,9 +1,11 @@
 -- Reading one line more, and what an answer says.
-use Rattle.std.specs.Prelude.{ℕ, ◌+◌, ◌≤◌, Bool, true, cond, ◌&&◌, ◌||◌, List, [], ◌∷◌, map, ◌≡◌, leb}
+use Rattle.std.specs.Prelude.{Result, Ok, Err, ℕ, ◌+◌, ◌≤◌, Bool, true, cond, ◌&&◌, ◌||◌, List, [], ◌∷◌, map, ◌≡◌, leb}
 use Rattle.fields.specs.Pieces.{Bytes}
 use Rattle.rows.specs.Lines.{Lines, lines}
 use Rattle.rows.specs.Rows.{Judgement, bad, Reading, read, refused, onward, Format, rows_from, ended, read_file}
 use Rattle.model.specs.declared.Header.{Header}
+use Rattle.model.specs.declared.Refusal.{Refusal}
+use Rattle.model.specs.Refusals.{number_of}
 use Rattle.model.specs.Scales.{header_in_range}
 use Rattle.model.specs.Files.{File}
 use Rattle.text.specs.declared.Context.{Context}
@@ -14,11 +16,15 @@ use Rattle.listings.specs.declared.Levels.TheVariants.{Falling, Rising}
 use Rattle.listings.specs.Listings.{Listed, Listing}
 use Rattle.listings.specs.Held.{held_reading}
 use Rattle.forms.specs.Along.{line_in}
+use Rattle.tables.specs.declared.Record.{Record}
 use Rattle.tables.specs.Records.{held}
 use Rattle.headers.specs.Headers.{header_form_of}
 use Rattle.lines.specs.Lines.{held_as, tested_as, listed_tests, line_form_of, line_judged}
-use Rattle.reader.specs.declared.FileRead.{FileRead}
-use Rattle.reader.specs.declared.FileRead.TheVariants.{Table, Refused}
+use Rattle.tables.specs.declared.files.CircuitTable.{CircuitTable}
+use Rattle.tables.specs.declared.files.ListingTable.{ListingTable}
+use Rattle.tables.specs.declared.files.ScheduleTable.{ScheduleTable}
+use Rattle.tables.specs.Files.{circuit_held, schedule_held, listing_held}
+use Rattle.reader.specs.declared.FileTable.{FileTable}
 
 -- "3 more lines than allowed", after so many lines, so many of them with a circuit's word; `begins` says whether this one's first
 -- field is one too
@@ -62,11 +68,24 @@ read_by Falling c text = read_text c text
 read_by Rising c text = held_reading (read_file (format_of Rising c) text)
 
 -- what an answer says, with the records that were filled: the file that they hold, or the refusal
-abbrev pub reading_of : FileRead → List (List ℕ) → Reading File
-reading_of (Table h count) records = read (file_of (held h records count))
-reading_of (Refused n place) records = refused n place
+abbrev pub reading_of : Result FileTable Refusal → List Record → Reading File
+reading_of (Ok t) records = read (file_of (held t.header records t.count))
+reading_of (Err r) records = refused (number_of r.fault) r.place
+
+-- the same of a file whose table lends the records
+abbrev pub circuit_told : Result CircuitTable Refusal → Reading File
+circuit_told (Ok t) = read (file_of (circuit_held t))
+circuit_told (Err r) = refused (number_of r.fault) r.place
+
+abbrev pub schedule_told : Result ScheduleTable Refusal → Reading File
+schedule_told (Ok t) = read (file_of (schedule_held t))
+schedule_told (Err r) = refused (number_of r.fault) r.place
+
+abbrev pub listing_told : Result ListingTable Refusal → Reading File
+listing_told (Ok t) = read (file_of (listing_held t))
+listing_told (Err r) = refused (number_of r.fault) r.place
 
 -- of a table that was read: no more lines than the limit, and every record past them free
-pub record Filled (limit : ℕ) (r : FileRead) (records : List (List ℕ)) : Type 0 where
-  pub few : (h : Header) (count : ℕ) → r ≡ Table h count → count ≤ limit
-  pub free : (h : Header) (count : ℕ) → r ≡ Table h count → RestFree (held h records count)
+pub record Filled (limit : ℕ) (r : Result FileTable Refusal) (records : List Record) : Type 0 where
+  pub few : (t : FileTable) → r ≡ Ok t → t.count ≤ limit
+  pub free : (t : FileTable) → r ≡ Ok t → RestFree (held t.header records t.count)

@@ -19,6 +19,7 @@ use Rattle.text.specs.Tables.{file_of}
 use Rattle.text.specs.Files.{text_under}
 use Rattle.text.proofs.Tables.{count_length}
 use Rattle.text.proofs.Most.{text_most}
+use Rattle.tables.specs.declared.Record.{Record}
 use Rattle.tables.specs.Records.{line_of, held}
 use Rattle.spelling.specs.Put.{Counted}
 use Rattle.writer.specs.Writing.{Written}
@@ -49,7 +50,7 @@ module _ (file : ℕ) (a : Answer) where
   answer_refused n p f r e q s = rw (e, ← q) s
 
 -- ---- the bytes that are needed
-module _ (word : Bytes) (h : Header) (records : List (List ℕ)) (count : ℕ) (short : length word ≤ 8) (all : length records ≡ 1792) (few : count ≤ 1792) where
+module _ (word : Bytes) (h : Header) (records : List Record) (count : ℕ) (short : length word ≤ 8) (all : length records ≡ 1792) (few : count ≤ 1792) where
   abbrev held_text : Bytes
   held_text = text_under word (file_of (held h records count))
 

@@ -28,6 +28,7 @@ use Rattle.model.proofs.Runs.{stopped_finished, stopped_is, stopped_line, finish
 use Rattle.model.proofs.Supplies.{ValidBest, kind_for}
 use Rattle.model.proofs.Tests.{HeaderFacts, header_facts}
 use Rattle.tables.specs.Bests.{reserves_of, reserves_in, reserves_run}
+use Rattle.tables.specs.declared.Record.{Record}
 use Rattle.tables.specs.Records.{line_of, lines_of, lines_held}
 use Rattle.reserves.specs.Walks.{one_more, KnownTo}
 
@@ -74,7 +75,7 @@ module _ (h : Header) (lines : List Line) where
           go (stops m) q f = q
 
 -- ---- the lines before line i
-module _ {h : Header} {records : List (List ℕ)} {reserves : List ℤ} {i : ℕ} (k : KnownTo h records reserves i) where
+module _ {h : Header} {records : List Record} {reserves : List ℤ} {i : ℕ} (k : KnownTo h records reserves i) where
   abbrev pub before : List Line
   before = lines_held records i
 

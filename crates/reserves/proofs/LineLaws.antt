@@ -31,8 +31,10 @@ use Rattle.model.proofs.Outcomes.{Outcome}
 use Rattle.model.proofs.Supplies.{ValidBest}
 use Rattle.model.proofs.Tests.{and_first, and_second, by_test}
 use Rattle.tables.specs.Bests.{reserves_run}
+use Rattle.tables.specs.declared.Record.{Record}
 use Rattle.tables.specs.Records.{lines_of, lines_held}
-use Rattle.reserves.specs.declared.LineReserve.{LineReserve}
+use Rattle.std.specs.Prelude.{Result}
+use Rattle.model.specs.declared.Fault.{Fault}
 use Rattle.reserves.specs.Pairs.{KnownOperand, pair_reserve, sum_reserve, product_reserve}
 use Rattle.choices.specs.Ranges.{HeaderRanges, Small}
 use Rattle.reserves.specs.Walks.{step_of, unless_too_low, one_more, KnownTo}
@@ -41,7 +43,7 @@ use Rattle.reserves.proofs.Known.{before, before_long, bests, header_in_range_le
 use Rattle.choices.proofs.Readings.{held, result_held, small_held}
 
 -- ---- one line, the i-th
-module _ {h : Header} {records : List (List ℕ)} {reserves : List ℤ} {i : ℕ} (k : KnownTo h records reserves i) where
+module _ {h : Header} {records : List Record} {reserves : List ℤ} {i : ℕ} (k : KnownTo h records reserves i) where
   pub header_fits : HeaderRanges h
   header_fits = ranges h (header_ranged k)
 
@@ -131,7 +133,7 @@ module _ {h : Header} {records : List (List ℕ)} {reserves : List ℤ} {i : ℕ
     tested : (s : Step ℤ ℕ) (z r : ℤ) → mag z < 2147483648 → z ≡ r → s ≡ unless_too_low h (held z) → s ≡ unless_too_low h r
     tested s z r f q w = w ∙ ap (unless_too_low h) (result_held z f ∙ q)
 
-    module _ (r : LineReserve) where
+    module _ (r : Result ℤ Fault) where
       pub in_comes : (z : ℤ) → x ≡ In → mag z < 2147483648 → z ≡ at_waterline h h.top → step_of r ≡ unless_too_low h (held z) → Comes (step_of r)
       in_comes z is f q w =
           line_comes k (step_of r) In (sym e ∙ is) (λ n. chosen (step_of r) (input_choice h) (tested (step_of r) z (at_waterline h h.top) f q w))

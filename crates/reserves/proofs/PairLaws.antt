@@ -18,6 +18,7 @@ use Rattle.reserves.specs.Pairs.{KnownOperand, is_bare, sum_reserve, product_res
 use Rattle.choices.specs.Ranges.{Small}
 use Rattle.reserves.specs.Walks.{unless_too_low}
 use Rattle.choices.proofs.Readings.{held, result_held, small_held, held_small}
+use Rattle.tables.specs.declared.Record.{Record}
 
 -- ---- a reserve below the headroom
 module _ (h : Header) (r : ℤ) (f : mag r < 2147483648) (z : ℤ) (least : SmallHeadroom h z) where
@@ -34,7 +35,7 @@ module _ (h : Header) (r : ℤ) (f : mag r < 2147483648) (z : ℤ) (least : Smal
   not_too_low t = rw (sym below ∙ t, result_held r f)
 
 -- ---- values a and b
-module _ (records : List (List ℕ)) (reserves : List ℤ) (a : ℕ) (o : KnownOperand records reserves a) where
+module _ (records : List Record) (reserves : List ℤ) (a : ℕ) (o : KnownOperand records reserves a) where
   pub operand_recorded : a < length records
   operand_recorded = o.recorded
 
@@ -44,7 +45,7 @@ module _ (records : List (List ℕ)) (reserves : List ℤ) (a : ℕ) (o : KnownO
   pub operand_small : Small (held (get_or reserves a (pos 0)))
   operand_small = held_small (get_or reserves a (pos 0)) o.small
 
-module _ (records : List (List ℕ)) (reserves : List ℤ) (a b : ℕ)
+module _ (records : List Record) (reserves : List ℤ) (a b : ℕ)
     (o : KnownOperand records reserves a) (p : KnownOperand records reserves b) (t : Bool) (e : t ≡ is_bare records a) where
   -- the first is a constant
   module _ (yes : t ≡ true) where

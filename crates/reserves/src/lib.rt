@@ -1,4 +1,5 @@
-// The best reserve of a circuit line, by those of the lines before it.
+// The best reserve of a circuit line, by those of the lines before it. It stands beside `linechoices`, since a walk that shares that is slower
+// (docs/DECISIONS.md, 63).
 #![tactic(auto)]
 
 ghost use Rattle.std.specs.Prelude.{◌≡◌, ◌+◌, T, take};
@@ -9,28 +10,23 @@ ghost use Rattle.choices.specs.Ranges.{HeaderRanges};
 ghost use Rattle.reserves.specs.Pairs.{KnownOperand, sum_reserve, product_reserve};
 ghost use Rattle.reserves.specs.Walks.{step_of, unless_too_low, one_more, KnownTo};
 
-use model::{Header, Line};
+use model::{Fault, Header, Line};
 use tables::Record;
 
-// What a line comes to: the best reserve that it leaves, 0 for a bare constant, or too few levels.
-#[derive(Clone, Copy)]
-pub enum LineReserve {
-    Leaves(i32),
-    TooFew,
-}
-
 // A line whose best reserve is below the headroom has too few levels.
-fn unless_too_low(header: Header, reserve: i32) -> LineReserve
+#[tactic(auto, using(crate::proofs::PairLaws::pairs))]
+fn unless_too_low(header: Header, reserve: i32) -> Result<i32, Fault>
     requires { T (header_in_range header) }
     ensures { step_of result ≡ unless_too_low header reserve }
 {
     if reserve < scales::headroom(header) {
-        return LineReserve::TooFew;
+        return Err(Fault::TooFewLevels);
     }
-    LineReserve::Leaves(reserve)
+    Ok(reserve)
 }
 
 // ---- one line
+#[tactic(auto, using(crate::proofs::PairLaws::pairs))]
 fn sum_reserve(circuit: &[Record], reserves: &[i32], a: u16, b: u16) -> i32
     requires known_operand { KnownOperand circuit.now reserves.now a }
     requires known_operand_2 { KnownOperand circuit.now reserves.now b }
@@ -47,6 +43,7 @@ fn sum_reserve(circuit: &[Record], reserves: &[i32], a: u16, b: u16) -> i32
     choices::smaller_of(reserves[first], reserves[second])
 }
 
+#[tactic(auto, using(crate::proofs::PairLaws::pairs))]
 fn product_reserve(header: Header, circuit: &[Record], reserves: &[i32], a: u16, b: u16) -> i32
     requires header_ranges { HeaderRanges header }
     requires known_operand { KnownOperand circuit.now reserves.now a }
@@ -65,14 +62,19 @@ fn product_reserve(header: Header, circuit: &[Record], reserves: &[i32], a: u16,
     choice.reserve
 }
 
-// Line i, where the best reserves of the lines before it are known.
-pub fn reserve_of(header: Header, circuit: &[Record], reserves: &[i32], i: usize) -> LineReserve
+// The best reserve that line i leaves, 0 for a bare constant, where those of the lines before it are known.
+pub fn reserve_of(
+    header: Header,
+    circuit: &[Record],
+    reserves: &[i32],
+    i: usize,
+) -> Result<i32, Fault>
     requires { KnownTo header circuit.now reserves.now i }
     ensures { reserves_run header (lines_held circuit.now (i + 1)) ≡ one_more i (take i reserves.now) (step_of result) }
 {
     match tables::line_at(circuit, i) {
         Line::In => unless_too_low(header, choices::at_waterline(header, header.top)),
-        Line::Const(_) => LineReserve::Leaves(0),
+        Line::Const(_) => Ok(0),
         Line::Neg(a) => {
             let first = a as usize;
             unless_too_low(header, reserves[first])
@@ -87,13 +89,13 @@ pub fn reserve_of(header: Header, circuit: &[Record], reserves: &[i32], i: usize
         }
         Line::Out(a) => {
             let first = a as usize;
-            LineReserve::Leaves(reserves[first])
+            Ok(reserves[first])
         }
         // No circuit has these words.
-        Line::Enc { .. } => LineReserve::TooFew,
-        Line::Rs(_, _) => LineReserve::TooFew,
-        Line::Ms(_, _) => LineReserve::TooFew,
-        Line::Us(_, _) => LineReserve::TooFew,
-        Line::Free => LineReserve::TooFew,
+        Line::Enc { .. } => Err(Fault::TooFewLevels),
+        Line::Rs(_, _) => Err(Fault::TooFewLevels),
+        Line::Ms(_, _) => Err(Fault::TooFewLevels),
+        Line::Us(_, _) => Err(Fault::TooFewLevels),
+        Line::Free => Err(Fault::TooFewLevels),
     }
 }

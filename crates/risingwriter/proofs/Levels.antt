@@ -1,12 +1,10 @@
 -- Levels turned in the records of a table: one record, and the loop over all. Assumes nothing.
-use Prim.Native.Nat.{ℕ, ◌+◌, ◌-◌, ◌≤◌, ◌<◌}
+use Prim.Native.Nat.{ℕ, ◌+◌, ◌≤◌, ◌<◌}
 use native.Mathlib.Omega.{arith}
 use mathlib.Core.Path.{◌≡◌, refl, sym, ap, ◌∙◌, subst}
-use mathlib.Core.Bool.{cond}
 use mathlib.Core.List.{List, [], ◌∷◌, ◌++◌, map, map-append}
 use borrow.Author.Rules.{rules}
-use borrow.Author.Tests.{ne_eqb}
-use lib.Dec.{T, eqb}
+use lib.Dec.{T}
 use lib.ListN.{length, get_or, set, length-set}
 use lib.Seq.{take-suc, get_or-take, get_or-set_other, length-take-le}
 use native.Mathlib.Numerals.{add-one}
@@ -16,59 +14,44 @@ use Rattle.rows.specs.Fields.{within}
 use Rattle.model.specs.declared.Grammar.TheVariants.{Schedule}
 use Rattle.model.specs.declared.Header.{Header}
 use Rattle.model.specs.declared.Line.{Line}
+use Rattle.model.specs.declared.Line.TheVariants as Lines
 use Rattle.model.specs.declared.Line.TheVariants.{Free}
+use Rattle.model.specs.declared.Word.TheVariants.{Enc}
 use Rattle.model.specs.Scales.{header_in_range}
 use Rattle.model.specs.Files.{in_range}
 use Rattle.model.proofs.Tests.{and_second, within_facts, header_facts}
 use Rattle.model.proofs.Formed.{well_header, well_lines, formed_index}
 use Rattle.text.specs.Tables.{TableFormed}
 use Rattle.listings.specs.Listings.{turned}
-use Rattle.tables.specs.Records.{line_from, line_with, line_of, lines_of, lines_held, held}
-use Rattle.operands.proofs.Renaming.{past_words, each_number}
+use Rattle.tables.specs.declared.Record.{Record}
+use Rattle.tables.specs.Records.{free_record, line_of, lines_of, lines_held, held}
 use Rattle.tables.proofs.HeldLines.{formed_few, formed_long, lines_set, stored_lines}
 use Rattle.tables.proofs.Words.{record_held}
 
 -- ---- a record
-module _ (h : Header) (n a b c : ℕ) where
-  turned_told : turned h (line_from n a b c) ≡ cond (eqb n 8) (line_from 8 a b (h.top - c)) (line_from n a b c)
-  unfolding line_from
-  turned_told =
-      each_number (λ w. turned h (line_with w a b c)) (λ m. cond (eqb m 8) (line_from 8 a b (h.top - c)) (line_from m a b c)) refl n
-      (λ l. rw (ne_eqb n 8 (λ e. omega arith), past_words n l))
-
-module _ (h : Header) (r : List ℕ) where
-  pub not_turned : (get_or r 0 0 ≡ 8 → ⊥) → line_of r ≡ turned h (line_of r)
-  unfolding line_of
-  not_turned other = sym (turned_told h (get_or r 0 0) (get_or r 1 0) (get_or r 2 0) (get_or r 3 0) ∙ rw (ne_eqb (get_or r 0 0) 8 other))
-
-  pub level_turned : get_or r 0 0 ≡ 8 → line_of (8 ∷ get_or r 1 0 ∷ get_or r 2 0 ∷ (h.top - get_or r 3 0) ∷ []) ≡ turned h (line_of r)
-  unfolding line_of
-  level_turned e = sym (turned_told h (get_or r 0 0) (get_or r 1 0) (get_or r 2 0) (get_or r 3 0) ∙ rw e)
-
-  pub level_most : get_or r 0 0 ≡ 8 → T (in_range h (line_of r)) → get_or r 3 0 ≤ h.top
-  unfolding line_of line_from
-  level_most e t =
-      let w = within_facts 1 h.top (get_or r 3 0) (and_second (within 1 3600 (get_or r 2 0)) (within 1 h.top (get_or r 3 0))
-      (subst (λ (n : ℕ). T (in_range h (line_from n (get_or r 1 0) (get_or r 2 0) (get_or r 3 0)))) e t)) in
-      w.most
+pub level_most : (h : Header) (r : Record) → r.word ≡ Enc → T (in_range h (line_of r)) → r.third ≤ h.top
+unfolding line_of
+level_most h r e t =
+    let f : T (in_range h (Lines.Enc r.first r.second r.third)) = rw e at t in
+    (within_facts 1 h.top r.third (and_second (within 1 3600 r.second) (within 1 h.top r.third) f)).most
 
 pub top_fits : (h : Header) → T (header_in_range h) → Fits w16 h.top
 top_fits h t = record { fits = omega (arith, (header_facts h t).top.most) }
 
-pub ruleset record_laws = (rules, not_turned, level_turned, level_most, top_fits)
+pub ruleset record_laws = (rules, level_most, top_fits)
 
 -- ---- the loop: the first i records hold turned lines, and the others what they held
-pub record Turning (h : Header) (given records : List (List ℕ)) (count i : ℕ) : Type 0 where
+pub record Turning (h : Header) (given records : List Record) (count i : ℕ) : Type 0 where
   pub formed : TableFormed Schedule (held h given count)
   pub most : i ≤ count
   pub long : length records ≡ length given
   pub done : lines_held records i ≡ map (turned h) (lines_held given i)
   pub rest : (j : ℕ) → i ≤ j → get_or (lines_of records) j Free ≡ get_or (lines_of given) j Free
 
-pub turning_start : (h : Header) (records : List (List ℕ)) (count : ℕ) → TableFormed Schedule (held h records count) → Turning h records records count 0
+pub turning_start : (h : Header) (records : List Record) (count : ℕ) → TableFormed Schedule (held h records count) → Turning h records records count 0
 turning_start h records count formed = record { formed = formed; most = omega arith; long = refl; done = refl; rest = λ j u. refl }
 
-module _ (h : Header) (given records : List (List ℕ)) (count i : ℕ) (t : Turning h given records count i) where
+module _ (h : Header) (given records : List Record) (count i : ℕ) (t : Turning h given records count i) where
   pub header_ranged : T (header_in_range h)
   header_ranged = well_header Schedule h (lines_held given count) t.formed.lines
 
@@ -86,17 +69,17 @@ module _ (h : Header) (given records : List (List ℕ)) (count i : ℕ) (t : Tur
     pub index_room : i < 1792
     index_room = omega (arith, formed_few Schedule h given count t.formed)
 
-    line_is : line_of (get_or records i []) ≡ get_or (lines_of given) i Free
+    line_is : line_of (get_or records i free_record) ≡ get_or (lines_of given) i Free
     line_is = record_held records i ∙ t.rest i (omega arith)
 
-    pub line_ranged : T (in_range h (line_of (get_or records i [])))
+    pub line_ranged : T (in_range h (line_of (get_or records i free_record)))
     line_ranged =
         let lines = lines_held given count in
         let long : length lines ≡ count = length-take-le count (lines_of given) (omega (arith, t.formed.room, formed_few Schedule h given count t.formed)) in
         let facts = formed_index Schedule h lines (well_lines Schedule h lines t.formed.lines) i (omega arith) in
         subst (λ (x : Line). T (in_range h x)) (get_or-take count (lines_of given) i Free more ∙ sym line_is) facts.range
 
-    pub turning_more : (r : List ℕ) → line_of r ≡ turned h (line_of (get_or records i [])) → Turning h given (set records i r) count (i + 1)
+    pub turning_more : (r : Record) → line_of r ≡ turned h (line_of (get_or records i free_record)) → Turning h given (set records i r) count (i + 1)
     turning_more r is =
         let x = get_or (lines_of given) i Free in
         let line : line_of r ≡ turned h x = is ∙ ap (turned h) line_is in

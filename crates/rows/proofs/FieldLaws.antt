@@ -13,23 +13,14 @@ use lib.ListN.{length}
 use native.Mathlib.Decide.{dec_le}
 use Rattle.ints.specs.Parts.{positive}
 use Rattle.fields.specs.Pieces.{Bytes}
-use Rattle.fields.specs.Numbers.{number_of, amount_of, amount_text}
-use Rattle.fields.specs.declared.Field.{Field}
-use Rattle.fields.specs.declared.Field.TheVariants.{Number, NoNumber}
-use Rattle.fields.specs.declared.Amount.{Amount}
-use Rattle.fields.specs.declared.Amount.TheVariants.{By, NoAmount}
+use Rattle.fields.specs.Numbers.{number_of, without_minus, amount_of, amount_text}
 use Rattle.fields.proofs.Each as E
+use Rattle.fields.proofs.DigitLaws.{some_is, none_some}
 use Rattle.fields.proofs.Each.{Each}
 use Rattle.fields.proofs.PieceLaws.{Without}
-use Rattle.fields.proofs.NumberLaws.{number_decimal, decimal_number, text_amount, amount_text_plain, amount_text_minus, amount_text_without, number_form, no_amount, amount_long}
-use Rattle.rows.specs.Fields.{Holds, operand, ranged, up_to_top, amount, natural, signed, read_field, both, read_fields, within, in_range, all_in_range}
+use Rattle.fields.proofs.NumberLaws.{number_decimal, decimal_number, text_amount, amount_text_plain, amount_text_minus, amount_text_without, number_form, amount_long}
+use Rattle.rows.specs.Fields.{Holds, operand, ranged, up_to_top, amount, read_field, both, read_fields, within, in_range, all_in_range}
 use Rattle.rows.proofs.Tests.{and_first, and_second}
-
-pub some_is : {A : Type 0} {x y : A} → some x ≡ some y → x ≡ y
-some_is e = cc
-
-pub none_some : {A : Type 0} {P : Type 0} {y : A} → none ≡ some y → P
-none_some e = absurd (let z : ◌≡◌ {A = ℕ} 0 1 = cc in omega arith)
 
 -- ---- numbers of a description: as many as it has fields, and below zero only amounts
 pub data Natural : ℤ → Type 0 where
@@ -52,12 +43,12 @@ Short (pos n) = n < 10 ^ 11
 Short (negsuc n) = suc n < 10 ^ 10
 
 -- ---- one field
-natural_forth : {n : ℤ} → Natural n → Short n → natural (number_of (amount_text n)) ≡ some n
-natural_forth (number n) s = ap natural (number_decimal n s)
+natural_forth : {n : ℤ} → Natural n → Short n → without_minus (number_of (amount_text n)) ≡ some n
+natural_forth (number n) s = ap without_minus (number_decimal n s)
 
-amount_forth : (n : ℤ) → Short n → signed (amount_of (amount_text n)) ≡ some n
-amount_forth (pos n) s = ap signed (amount_text_plain n s)
-amount_forth (negsuc n) s = ap signed (amount_text_minus n s)
+amount_forth : (n : ℤ) → Short n → amount_of (amount_text n) ≡ some n
+amount_forth (pos n) s = amount_text_plain n s
+amount_forth (negsuc n) s = amount_text_minus n s
 
 field_forth : (f : Holds) (n : ℤ) → Held f n → Short n → read_field f (amount_text n) ≡ some n
 field_forth operand n h s = natural_forth h s
@@ -70,25 +61,21 @@ pub record FieldBack (f : Holds) (b : Bytes) (n : ℤ) : Type 0 where
   pub few : length b ≤ 11
   pub written : amount_text n ≡ b
 
-natural_back : (b : Bytes) {n : ℤ} → natural (number_of b) ≡ some n → FieldBack operand b n
+natural_back : (b : Bytes) {n : ℤ} → without_minus (number_of b) ≡ some n → FieldBack operand b n
 natural_back b {n} e = go (number_of b) refl e
   where
-    go : (x : Field) → number_of b ≡ x → natural x ≡ some n → FieldBack operand b n
-    go (Number m) q v = subst (FieldBack operand b) (some_is v) (record { held = number m; few = (number_form b q).short; written = decimal_number b q })
-    go NoNumber q v = none_some v
+    go : (x : Option ℕ) → number_of b ≡ x → without_minus x ≡ some n → FieldBack operand b n
+    go (some m) q v = subst (FieldBack operand b) (some_is v) (record { held = number m; few = (number_form b q).short; written = decimal_number b q })
+    go none q v = none_some v
 
-amount_short : (b : Bytes) {t : ℤ} → amount_of b ≡ By t → length b ≤ 11
-amount_short b e = elim (dec_le (length b) 11) [ yes h ↦ h | no h ↦ no_amount (sym (amount_long b (omega arith)) ∙ e) ]
+amount_short : (b : Bytes) {t : ℤ} → amount_of b ≡ some t → length b ≤ 11
+amount_short b e = elim (dec_le (length b) 11) [ yes h ↦ h | no h ↦ none_some (sym (amount_long b (omega arith)) ∙ e) ]
 
 field_back : (f : Holds) (b : Bytes) {n : ℤ} → read_field f b ≡ some n → FieldBack f b n
 field_back operand b e = natural_back b e
 field_back (ranged low high) b e = let r = natural_back b e in record { held = r.held; few = r.few; written = r.written }
 field_back up_to_top b e = let r = natural_back b e in record { held = r.held; few = r.few; written = r.written }
-field_back (amount most) b {n} e = go (amount_of b) refl e
-  where
-    go : (x : Amount) → amount_of b ≡ x → signed x ≡ some n → FieldBack (amount most) b n
-    go (By t) q v = record { held = tt; few = amount_short b q; written = ap amount_text (sym (some_is v)) ∙ text_amount b q }
-    go NoAmount q v = none_some v
+field_back (amount most) b e = record { held = tt; few = amount_short b e; written = text_amount b e }
 
 -- ---- all fields
 pub fields_written_read : {fs : List Holds} {ns : List ℤ} → Fields Held fs ns → Each Short ns → read_fields fs (map amount_text ns) ≡ some ns

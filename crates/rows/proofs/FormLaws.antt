@@ -14,11 +14,12 @@ use Rattle.fields.specs.Numbers.{amount_text}
 use Rattle.fields.proofs.Each as E
 use Rattle.fields.proofs.Each.{Each}
 use Rattle.fields.proofs.PieceLaws.{Without, split_join, join_split, join_without, same_bytes_lem, bytes_same}
+use Rattle.fields.proofs.DigitLaws.{some_is, none_some}
 use Rattle.rows.specs.Fields.{Holds, read_fields}
 use Rattle.rows.specs.Wordless.{wordless}
 use Rattle.rows.specs.Forms.{Form, said_text, after_word, titled, or_else, either, Vocabulary, Said, named, saying, read_said, worded, made}
 use Rattle.rows.proofs.Tests.{and_first, and_second, cond_cases, cond_true}
-use Rattle.rows.proofs.FieldLaws.{some_is, none_some, Held, Fields, Short, fields_written_read, fields_read_written, fields_fewer, fields_length, numbers_without}
+use Rattle.rows.proofs.FieldLaws.{Held, Fields, Short, fields_written_read, fields_read_written, fields_fewer, fields_length, numbers_without}
 use Rattle.rows.proofs.LengthLaws.{fields_most}
 
 -- A lawful form: what is read is written so, on one line. That what is written is read back asks its numbers to be short.

@@ -4,11 +4,7 @@ use Rattle.std.proofs.Math.Option.{Option, none, some}
 use Rattle.std.specs.Int.Signed.{le_z}
 use Rattle.ints.specs.Parts.{positive}
 use Rattle.fields.specs.Pieces.{Bytes}
-use Rattle.fields.specs.Numbers.{number_of, amount_of}
-use Rattle.fields.specs.declared.Field.{Field}
-use Rattle.fields.specs.declared.Field.TheVariants.{Number, NoNumber}
-use Rattle.fields.specs.declared.Amount.{Amount}
-use Rattle.fields.specs.declared.Amount.TheVariants.{By, NoAmount}
+use Rattle.fields.specs.Numbers.{number_of, without_minus, amount_of}
 
 -- What a field holds: a value number, which "has no range of its own"; a number from the first to the second; a level, from 1 to the top
 -- level; a rotation amount, from minus so much to so much.
@@ -19,20 +15,12 @@ pub data Holds : Type 0 where
   amount : ℕ → Holds
 
 -- ---- reading: the number that stands in a field, if one does
-abbrev pub natural : Field → Option ℤ
-natural (Number n) = some (pos n)
-natural NoNumber = none
-
-abbrev pub signed : Amount → Option ℤ
-signed (By t) = some t
-signed NoAmount = none
-
 -- "a minus stands only before a nonzero rotation"
 abbrev pub read_field : Holds → Bytes → Option ℤ
-read_field operand field = natural (number_of field)
-read_field (ranged low high) field = natural (number_of field)
-read_field up_to_top field = natural (number_of field)
-read_field (amount most) field = signed (amount_of field)
+read_field operand field = without_minus (number_of field)
+read_field (ranged low high) field = without_minus (number_of field)
+read_field up_to_top field = without_minus (number_of field)
+read_field (amount most) field = amount_of field
 
 abbrev pub both : Option ℤ → Option (List ℤ) → Option (List ℤ)
 both none more = none

@@ -28,12 +28,14 @@ use Rattle.model.proofs.Lists.{found_at}
 use Rattle.model.proofs.Tests.{below_or_not}
 use Rattle.model.proofs.Formed.{LineFacts}
 use Rattle.listings.specs.Held.{counted_line, counted_table, held_machine, held_answer, scale_of}
-use Rattle.bounds.specs.declared.Ruled.{Ruled}
-use Rattle.bounds.specs.declared.Ruled.TheVariants.{Goes, Stops}
-use Rattle.linerules.specs.declared.Held.{Held}
-use Rattle.bounds.specs.Bounded.{SmallRuled}
-use Rattle.linerules.specs.Ruled.{ruled_by, Small}
+use Rattle.std.specs.Prelude.{Result, Ok, Err, IfOk}
+use Rattle.model.specs.declared.Fault.{Fault}
+use Rattle.model.specs.Refusals.{number_of}
+use Rattle.bounds.specs.declared.Held.{Held}
+use Rattle.bounds.specs.Bounded.{stepped, Small}
+use Rattle.linerules.specs.Ruled.{ruled_by}
 use Rattle.operands.specs.Operands.{first_operand, second_operand}
+use Rattle.tables.specs.declared.Record.{Record}
 use Rattle.tables.specs.Records.{lines_of, lines_held, held}
 use Rattle.tables.proofs.Beside.{none_most, set_most}
 use Rattle.rules.specs.Scales.{no_scales, ScalesLeft}
@@ -47,7 +49,7 @@ pub record Agrees (x : Line) (v : Held) (found : Found) : Type 0 where
 
 -- The loop's invariant: with what was found of the first i lines, which is what their numbers stand for, the lines left come to what all
 -- lines come to.
-pub record Checking (h : Header) (records : List (List ℕ)) (count : ℕ) (scales levels : List ℕ) (i : ℕ) : Type 0 where
+pub record Checking (h : Header) (records : List Record) (count : ℕ) (scales levels : List ℕ) (i : ℕ) : Type 0 where
   pub formed : TableFormed Schedule (counted_table (held h records count))
   pub scales_wide : length scales ≡ 1792
   pub levels_wide : length levels ≡ 1792
@@ -62,7 +64,7 @@ pub record Checking (h : Header) (records : List (List ℕ)) (count : ℕ) (scal
   pub left : run_from (held_machine h) ins found (drop i (lines_held records count)) ≡ run (held_machine h) (lines_held records count)
 
 pub start :
-    (h : Header) (records : List (List ℕ)) (count : ℕ) (scales : List ℕ) → TableFormed Schedule (counted_table (held h records count)) → scales ≡ no_scales →
+    (h : Header) (records : List Record) (count : ℕ) (scales : List ℕ) → TableFormed Schedule (counted_table (held h records count)) → scales ≡ no_scales →
     Checking h records count scales (replicate 1792 0) 0
 start h records count scales formed none =
     record {
@@ -86,7 +88,7 @@ abbrev scale_at : ℕ → Run Found ℕ → ℕ
 scale_at a r = elim r [ finished found ↦ scale_of (get_or found a Founds.Bare) | stopped j n ↦ 0 ]
 
 module _
-    (h : Header) (records : List (List ℕ)) (count : ℕ) (scales levels : List ℕ) (i : ℕ) (k : Checking h records count scales levels i) where
+    (h : Header) (records : List Record) (count : ℕ) (scales levels : List ℕ) (i : ℕ) (k : Checking h records count scales levels i) where
   abbrev lines : List Line
   lines = lines_held records count
 
@@ -176,35 +178,35 @@ module _
       second_below a e = omega (arith, named_there 1)
 
       module _
-          (a b : ℕ) (first : a ≡ first_operand x) (second : b ≡ second_operand x) (r : Ruled)
-          (ruled : r ≡ ruled_by h x (held_at scales levels a) (held_at scales levels b)) where
-        told : r ≡ ruled_by h x (held_at scales levels (first_operand x)) (held_at scales levels (second_operand x))
+          (a b : ℕ) (first : a ≡ first_operand x) (second : b ≡ second_operand x) (r : Result Held Fault)
+          (ruled : stepped r ≡ ruled_by h x (held_at scales levels a) (held_at scales levels b)) where
+        told : stepped r ≡ ruled_by h x (held_at scales levels (first_operand x)) (held_at scales levels (second_operand x))
         told = rw (first, second) at ruled
 
-        told_line : r ≡ ruled_by h line (held_at scales levels (first_operand line)) (held_at scales levels (second_operand line))
+        told_line : stepped r ≡ ruled_by h line (held_at scales levels (first_operand line)) (held_at scales levels (second_operand line))
         told_line = told ∙ ap (λ (y : Line). ruled_by h y (held_at scales levels (first_operand y)) (held_at scales levels (second_operand y))) is
 
-        steps : step (held_machine h) k.ins k.found line ≡ step_of (kind_of line) r
+        steps : step (held_machine h) k.ins k.found line ≡ step_of (kind_of line) (stepped r)
         steps = step_is h before k.found scales levels before_agree k.ins line facts ∙ ap (step_of (kind_of line)) (sym told_line)
 
-        next : onward (step_of (kind_of line) r) ≡ run (held_machine h) lines
+        next : onward (step_of (kind_of line) (stepped r)) ≡ run (held_machine h) lines
         next = ap onward (sym steps) ∙ ap (run_from (held_machine h) k.ins k.found) (sym rest_is) ∙ k.left
 
         -- a line that breaks a rule
-        pub line_refused : (n : ℕ) → r ≡ Stops n → Refused n (i + 2) ≡ held_answer h lines
-        line_refused n e = ap (λ (n' : ℕ). Refused n (place_of n')) (sym k.long) ∙ ap answer (rw e at next)
+        pub line_refused : (f : Fault) → r ≡ Err f → Refused (number_of f) (i + 2) ≡ held_answer h lines
+        line_refused f e = ap (λ (n : ℕ). Refused (number_of f) (place_of n)) (sym k.long) ∙ ap answer (rw e at next)
 
         -- a line that breaks none
-        module _ (s l : ℕ) (passes : r ≡ Goes s l) where
+        module _ (v : Held) (passes : r ≡ Ok v) where
           abbrev found_now : Found
-          found_now = found_as (kind_of line) s l
+          found_now = found_as (kind_of line) v.scale v.level
 
-          now_agrees : Agrees line (record { scale = s; level = l }) found_now
+          now_agrees : Agrees line v found_now
           now_agrees =
               record {
                 is = refl;
                 scale =
-                    scale_found h line (held_at scales levels (first_operand line)) (held_at scales levels (second_operand line)) s l (sym told_line ∙ passes);
+                    scale_found h line (held_at scales levels (first_operand line)) (held_at scales levels (second_operand line)) v (sym told_line ∙ ap stepped passes);
               }
 
           seam : get_or (k.found ++ (found_now ∷ [])) i Founds.Bare ≡ found_now
@@ -212,7 +214,7 @@ module _
               ap (λ (n : ℕ). get_or (k.found ++ (found_now ∷ [])) n Founds.Bare) (sym k.long) ∙ get_or-append_seam k.found found_now [] Founds.Bare
 
           abbrev AgreesAt : ℕ → Type 0
-          AgreesAt a = Agrees (get_or lines a Free) (held_at (set scales i s) (set levels i l) a) (get_or (k.found ++ (found_now ∷ [])) a Founds.Bare)
+          AgreesAt a = Agrees (get_or lines a Free) (held_at (set scales i v.scale) (set levels i v.level) a) (get_or (k.found ++ (found_now ∷ [])) a Founds.Bare)
 
           agree_on : (a : ℕ) → a < i + 1 → AgreesAt a
           agree_on a b = ⊎_elim earlier here (below_or_not a i)
@@ -220,8 +222,8 @@ module _
               earlier : a < i → AgreesAt a
               earlier c =
                   rw (
-                    get_or-set_other scales i a s 0 (λ same. omega arith),
-                    get_or-set_other levels i a l 0 (λ same. omega arith),
+                    get_or-set_other scales i a v.scale 0 (λ same. omega arith),
+                    get_or-set_other levels i a v.level 0 (λ same. omega arith),
                     get_or-append k.found (found_now ∷ []) Founds.Bare a (omega (arith, k.long)),
                   )
                   (k.agree a c)
@@ -231,24 +233,24 @@ module _
                   let same : a ≡ i = omega arith in
                   subst AgreesAt (sym same)
                   (rw (
-                    get_or-set_same scales i s 0 (omega (arith, room, k.scales_wide)),
-                    get_or-set_same levels i l 0 (omega (arith, room, k.levels_wide)),
+                    get_or-set_same scales i v.scale 0 (omega (arith, room, k.scales_wide)),
+                    get_or-set_same levels i v.level 0 (omega (arith, room, k.levels_wide)),
                     seam,
                     line_is,
                   )
                   now_agrees)
 
-          pub line_passes : SmallRuled r → Checking h records count (set scales i s) (set levels i l) (i + 1)
+          pub line_passes : IfOk r Small → Checking h records count (set scales i v.scale) (set levels i v.level) (i + 1)
           line_passes small =
-              let less = subst SmallRuled passes small in
+              let less : Small v = subst (λ (x : Result Held Fault). IfOk x Small) passes small in
               record {
                 formed = k.formed;
-                scales_wide = length-set scales i s ∙ k.scales_wide;
-                levels_wide = length-set levels i l ∙ k.levels_wide;
+                scales_wide = length-set scales i v.scale ∙ k.scales_wide;
+                levels_wide = length-set levels i v.level ∙ k.levels_wide;
                 small = λ a.
                     record {
-                      scale = set_most scales i s 3600 (λ b. (k.small b).scale) less.scale a;
-                      level = set_most levels i l 60 (λ b. (k.small b).level) less.level a;
+                      scale = set_most scales i v.scale 3600 (λ b. (k.small b).scale) less.scale a;
+                      level = set_most levels i v.level 60 (λ b. (k.small b).level) less.level a;
                     };
                 few = k.few;
                 within = omega arith;

@@ -26,6 +26,7 @@ use Rattle.model.proofs.Formed.{LineFacts, line_facts, well_header, well_lines, 
 use Rattle.text.specs.Tables.{Table, table_lines, TableFormed}
 use Rattle.text.proofs.Tables.{table_length}
 use Rattle.listings.specs.Held.{counted_line, counted_table, downscaled, held_machine, held_answer}
+use Rattle.tables.specs.declared.Record.{Record}
 use Rattle.tables.specs.Records.{line_of, lines_of, lines_held, held}
 use Rattle.operands.proofs.Operands.{operand_below}
 use Rattle.linerules.proofs.LineLaws.{rescale_counted}
@@ -50,7 +51,7 @@ pub counted_operands : (x : Line) → operands (counted_line x) ≡ operands x
 counted_operands x = same_counted operands (λ a c d. refl) x
 
 -- ---- the table of a listing
-module _ (h : Header) (records : List (List ℕ)) (count : ℕ) (f : TableFormed Schedule (counted_table (held h records count))) where
+module _ (h : Header) (records : List Record) (count : ℕ) (f : TableFormed Schedule (counted_table (held h records count))) where
   pub counted_few : count ≤ 1792
   counted_few = leb→le count 1792 f.few
 

@@ -1,14 +1,16 @@
 -- Where every line keeps the rules, the operand of each `ds` has a scale below W + F. Assumes nothing.
 use Prim.Native.Nat.{ℕ, zero, suc, ◌+◌, ◌<◌}
 use native.Mathlib.Omega.{arith}
-use mathlib.Core.Path.{◌≡◌, refl, sym, ap, ◌∙◌, subst}
+use mathlib.Core.Path.{◌≡◌, refl, sym, ap, ◌∙◌}
 use mathlib.Core.Bool.{Bool, true, false, cond}
 use mathlib.Core.List.{List, [], ◌∷◌, ◌++◌}
 use mathlib.Core.Option.{Option, none, some}
 use lib.Dec.{T, ltb, ltb→lt, eqb→eq}
 use lib.ListN.{length, get_or, get_elem?}
 use lib.Seq.{get_or-take}
-use Rattle.model.specs.declared.Answer.{Answer}
+use Rattle.std.specs.Prelude.{Result, Ok}
+use Rattle.model.specs.declared.Refusal.{Refusal}
+use Rattle.model.specs.Refusals.{verdict_answer}
 use Rattle.model.specs.declared.Answer.TheVariants.{Done, Refused}
 use Rattle.model.specs.declared.Found.{Found}
 use Rattle.model.specs.declared.Found.TheVariants as Founds
@@ -23,8 +25,9 @@ use Rattle.model.proofs.Lists.{found_is}
 use Rattle.model.proofs.Runs.{or_absent, stops_goes, stopped_finished, kept_on}
 use Rattle.text.specs.Tables.{TableFormed}
 use Rattle.listings.specs.Held.{is_downscale, named, counted_table, downscaled, held_machine, held_answer, scale_of, found_scales}
+use Rattle.tables.specs.declared.Record.{Record}
 use Rattle.tables.specs.Records.{lines_of, lines_held, held}
-use Rattle.rules.specs.Scales.{ScalesLeft, LeavesScales, DownscalesBelow}
+use Rattle.rules.specs.Scales.{ScalesLeft, DownscalesBelow}
 use Rattle.rules.proofs.Counted.{lines_long, named_below}
 
 -- a `ds` as the table holds it
@@ -113,7 +116,7 @@ module _ (h : Header) where
       at (stopped j n) q p = absurd (let z : ◌≡◌ {A = ℕ} 0 1 = cc in omega arith)
 
 -- and with the scales that are left behind
-module _ (h : Header) (records : List (List ℕ)) (count : ℕ) (formed : TableFormed Schedule (counted_table (held h records count))) where
+module _ (h : Header) (records : List Record) (count : ℕ) (formed : TableFormed Schedule (counted_table (held h records count))) where
   abbrev lines : List Line
   lines = lines_held records count
 
@@ -133,9 +136,7 @@ module _ (h : Header) (records : List (List ℕ)) (count : ℕ) (formed : TableF
       }
 
   -- where the answer is that every line keeps the rules
-  module _ (r : Answer) (scales : List ℕ) (told : r ≡ held_answer h lines) (leaves : LeavesScales h lines scales r) (is : r ≡ Done) where
-    pub done_left : ScalesLeft h lines scales
-    done_left = subst (LeavesScales h lines scales) is leaves
-
-    pub done_below : DownscalesBelow h lines scales
-    done_below = left_below scales (sym is ∙ told) done_left
+  pub done_below :
+      (r : Result Unit Refusal) (u : Unit {0}) (scales : List ℕ) → verdict_answer r ≡ held_answer h lines → r ≡ Ok u → ScalesLeft h lines scales →
+      DownscalesBelow h lines scales
+  done_below r u scales told is left = left_below scales (sym (ap verdict_answer is) ∙ told) left

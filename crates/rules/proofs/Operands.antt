@@ -2,7 +2,7 @@
 -- that those hold; a rescale by 0 stands for `ds`. Assumes nothing.
 use Prim.Native.Nat.{ℕ, ◌+◌, ◌-◌, ◌*◌, ◌<◌}
 use native.Mathlib.Omega.{arith}
-use mathlib.Core.Path.{◌≡◌, refl, ap, ap₂, ◌∙◌, subst}
+use mathlib.Core.Path.{◌≡◌, refl, sym, ap, ap₂, ◌∙◌, subst}
 use mathlib.Core.Bool.{Bool, true, false, cond}
 use mathlib.Core.List.{List, [], ◌∷◌}
 use mathlib.Core.Option.{Option, some}
@@ -27,9 +27,7 @@ use Rattle.listings.specs.Held.{counted_line, downscaled, held_machine, scale_of
 use Rattle.model.proofs.Tests.{and_first, and_second, is_ciphertext_lem, is_constant_lem}
 use Rattle.model.proofs.Runs.{or_absent}
 use Rattle.model.proofs.Formed.{LineFacts, usable_below}
-use Rattle.bounds.specs.declared.Ruled.{Ruled}
-use Rattle.bounds.specs.declared.Ruled.TheVariants.{Goes, Stops}
-use Rattle.linerules.specs.declared.Held.{Held}
+use Rattle.bounds.specs.declared.Held.{Held}
 use Rattle.bounds.specs.Bounded.{ruled_unless, bounded_numbers}
 use Rattle.linerules.specs.Ruled.{moved_by, sum_of, product_of, downscaled_of, ruled_by}
 use Rattle.operands.specs.Operands.{first_operand, second_operand}
@@ -46,21 +44,21 @@ found_as Constant s l = Founds.Bare
 found_as Encoded s l = Founds.Encoded s l
 found_as Nothing s l = Founds.Ciphertext s l
 
-abbrev pub step_of : Kind → Ruled → Step Found ℕ
-step_of k (Goes s l) = goes (found_as k s l)
-step_of k (Stops n) = stops n
+abbrev pub step_of : Kind → Step Held ℕ → Step Found ℕ
+step_of k (goes v) = goes (found_as k v.scale v.level)
+step_of k (stops n) = stops n
 
-unless_is : (k : Kind) (tests : Tests) (r : Ruled) → unless tests (step_of k r) ≡ step_of k (ruled_unless tests r)
+unless_is : (k : Kind) (tests : Tests) (r : Step Held ℕ) → unless tests (step_of k r) ≡ step_of k (ruled_unless tests r)
 unless_is k [] r = refl
 unless_is k ((n, passes) ∷ tests) r = go passes (unless_is k tests r)
   where
-    go : (b : Bool) → unless tests (step_of k r) ≡ step_of k (ruled_unless tests r) → cond b (unless tests (step_of k r)) (stops n) ≡ step_of k (cond b (ruled_unless tests r) (Stops n))
+    go : (b : Bool) → unless tests (step_of k r) ≡ step_of k (ruled_unless tests r) → cond b (unless tests (step_of k r)) (stops n) ≡ step_of k (cond b (ruled_unless tests r) (stops n))
     go true e = e
     go false e = refl
 
 module _ (h : Header) (k : Kind) where
   bounded_is : (s s' l l' : ℤ) → s ≡ s' → l ≡ l' → bounded h (found_as k) s l ≡ step_of k (bounded_numbers h s' l')
-  bounded_is s s' l l' e f = unless_is k (bound_tests h s l) (Goes _ _) ∙ ap₂ (λ (x y : ℤ). step_of k (bounded_numbers h x y)) e f
+  bounded_is s s' l l' e f = unless_is k (bound_tests h s l) (goes (record { scale = _; level = _ })) ∙ ap₂ (λ (x y : ℤ). step_of k (bounded_numbers h x y)) e f
 
   plus_zero : (n : ℕ) → n ≡ n + 0
   plus_zero n = omega arith
@@ -103,7 +101,7 @@ downscaled_is h x =
     let raised = h.waterline + h.factor in
     let tests : Tests =
     (14, ltb x.scale raised) ∷ (9, le_z (pos raised +ℤ pos (headroom h)) (pos h.factor *ℤ pos x.level)) ∷ [] in
-    unless_is Ciphertext tests (Goes h.waterline (x.level - 1))
+    unless_is Ciphertext tests (goes (record { scale = h.waterline; level = x.level - 1 }))
 
 -- ---- operands
 -- two ciphertexts, or one and an encoded constant, in either place
@@ -200,17 +198,17 @@ module _
   step_is ins Free c = absurd c.word
 
 -- the scale of what is found: a bare constant leaves 0
-pub scale_found : (h : Header) (x : Line) (v w : Held) (s l : ℕ) → ruled_by h x v w ≡ Goes s l → scale_of (found_as (kind_of x) s l) ≡ s
+pub scale_found : (h : Header) (x : Line) (v w held : Held) → ruled_by h x v w ≡ goes held → scale_of (found_as (kind_of x) held.scale held.level) ≡ held.scale
 unfolding ruled_by
-scale_found h In v w s l e = refl
-scale_found h (Const k) v w s l e = cc
-scale_found h (Neg a) v w s l e = refl
-scale_found h (Rot a t) v w s l e = refl
-scale_found h (Add a b) v w s l e = refl
-scale_found h (Mul a b) v w s l e = refl
-scale_found h (Out a) v w s l e = refl
-scale_found h (Enc a s' l') v w s l e = refl
-scale_found h (Rs a k) v w s l e = refl
-scale_found h (Ms a k) v w s l e = refl
-scale_found h (Us a b) v w s l e = refl
-scale_found h Free v w s l e = refl
+scale_found h In v w held e = refl
+scale_found h (Const k) v w held e = let same : ◌≡◌ {A = Held} held (record { scale = 0; level = 0 }) = cc in sym (ap (λ (x : Held). x.scale) same)
+scale_found h (Neg a) v w held e = refl
+scale_found h (Rot a t) v w held e = refl
+scale_found h (Add a b) v w held e = refl
+scale_found h (Mul a b) v w held e = refl
+scale_found h (Out a) v w held e = refl
+scale_found h (Enc a s' l') v w held e = refl
+scale_found h (Rs a k) v w held e = refl
+scale_found h (Ms a k) v w held e = refl
+scale_found h (Us a b) v w held e = refl
+scale_found h Free v w held e = refl

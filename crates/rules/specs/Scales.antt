@@ -1,7 +1,5 @@
 -- The scales that are left behind where every line keeps the rules.
 use Rattle.std.specs.Prelude.{ℕ, ◌+◌, ◌≤◌, ◌<◌, List, ◌≡◌, T, length, get_or, replicate}
-use Rattle.model.specs.declared.Answer.{Answer}
-use Rattle.model.specs.declared.Answer.TheVariants.{Done, Level, Refused}
 use Rattle.model.specs.declared.Header.{Header}
 use Rattle.model.specs.declared.Line.{Line}
 use Rattle.model.specs.declared.Line.TheVariants.{Free}
@@ -15,12 +13,6 @@ no_scales = replicate 1792 0
 pub record ScalesLeft (h : Header) (lines : List Line) (scales : List ℕ) : Type 0 where
   pub small : (i : ℕ) → get_or scales i 0 ≤ 3600
   pub found : (i : ℕ) → i < length lines → get_or scales i 0 ≡ found_scales h lines i
-
--- where the answer is that each does
-abbrev pub LeavesScales : Header → List Line → List ℕ → Answer → Type 0
-LeavesScales h lines scales Done = ScalesLeft h lines scales
-LeavesScales h lines scales (Level l) = Unit {0}
-LeavesScales h lines scales (Refused n place) = Unit {0}
 
 -- the operand of each `ds` has a scale below W + F
 pub record DownscalesBelow (h : Header) (lines : List Line) (scales : List ℕ) : Type 0 where

@@ -5,16 +5,12 @@ ghost use Rattle.std.specs.Prelude.{T};
 ghost use Rattle.model.specs.Scales.{header_in_range};
 ghost use Rattle.scales.specs.Headroom.{SmallHeadroom};
 
-use model::{Header, Headroom};
+use model::Header;
 
 // The headroom, 0 where none is given: the modulus must leave it above a scale, and no best reserve may be below it.
 pub fn headroom(header: Header) -> i32
     requires { T (header_in_range header) }
     ensures { SmallHeadroom header result }
 {
-    let given = header.headroom;
-    match given {
-        Headroom::None => 0,
-        Headroom::Given(bits) => bits as i32,
-    }
+    header.headroom.unwrap_or(0) as i32
 }

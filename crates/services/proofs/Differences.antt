@@ -7,6 +7,7 @@ use mathlib.Core.Option.{none, some}
 use lib.Dec.{T}
 use lib.ListN.{length, take}
 use Rattle.fields.specs.Pieces.{Bytes, line_feed, split, same_bytes}
+use Rattle.fields.proofs.DigitLaws.{some_is, none_some}
 use Rattle.model.specs.declared.Grammar.TheVariants.{Circuit, Schedule}
 use Rattle.model.specs.declared.Header.{Header}
 use Rattle.model.specs.declared.Line.{Line}
@@ -19,7 +20,6 @@ use Rattle.model.proofs.Formed.{LineFacts, line_facts, well_header, well_lines}
 use Rattle.model.proofs.Statements.Check as Check
 use Rattle.model.proofs.Theorems as Model
 use Rattle.rows.specs.Forms.{named}
-use Rattle.rows.proofs.FieldLaws.{some_is, none_some}
 use Rattle.rows.proofs.LineLaws as Lines
 use Rattle.rows.proofs.LineLaws.{split_lines}
 use Rattle.rows.proofs.RowLaws.{file_lines}

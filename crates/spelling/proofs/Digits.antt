@@ -44,7 +44,7 @@ one_place_more (suc k) n h =
     by_digits n (λ l. one_digit (suc k) n l ∙ sym (one_digit (suc (suc k)) n l))
     (λ l. rw (more_digits (suc k) n l, more_digits (suc (suc k)) n l, rest))
 
-at_most : (k n : ℕ) → length (decimal_in k n) ≤ k
+pub at_most : (k n : ℕ) → length (decimal_in k n) ≤ k
 unfolding decimal_in
 at_most zero n = omega arith
 at_most (suc k) n =

@@ -1,69 +1,76 @@
--- What one field more adds to the text, and what closes a line.
--- Assumes nothing.
-use Prim.Native.Nat.{ℕ, ◌+◌, ◌≤◌}
-use mathlib.Core.List.{[], ◌∷◌, ◌++◌, append_assoc}
-use mathlib.Core.Path.{◌≡◌, refl, ap}
-use native.Mathlib.Omega.{arith}
+-- A word and its fields: what one number more adds to the text, and what closes a line. Assumes nothing.
+use Prim.Native.Nat.{ℕ, ◌+◌, ◌<◌}
+use mathlib.Core.List.{List, [], ◌∷◌, ◌++◌, map, append_assoc}
+use mathlib.Core.Path.{◌≡◌, refl, sym, ap, ◌∙◌}
 use lib.IntN.{ℤ}
-use lib.ListN.{length, length-append}
+use lib.ListN.{length, get_or, take, drop, take-append-drop}
+use lib.Seq.{take-length}
 use mir.Syntax.{w16}
 use mir.Val.{SFits}
+use Rattle.std.proofs.lemmas.List.{append-nil, map-append, take_more}
 use Rattle.fields.specs.Pieces.{Bytes, tab, line_feed, join}
-use Rattle.fields.specs.Numbers.{amount_text}
+use Rattle.fields.specs.Numbers.{decimal, amount_text}
 use Rattle.rows.specs.Lines.{text_of}
-use Rattle.spelling.specs.Put.{Counted}
-use Rattle.spelling.proofs.Puts.{GoesOn, goes_on}
 use Rattle.spelling.proofs.Signs.{held}
 use Rattle.spelling.proofs.Amounts.{amount_held}
 
--- ---- one field more
-pub one_more_lem : (w a : Bytes) → join tab (w ∷ a ∷ []) ≡ w ++ (tab ∷ a)
+-- ---- a word and its fields: each with a tab before it
+abbrev pub tabbed : List Bytes → Bytes
+tabbed [] = []
+tabbed (p ∷ ps) = tab ∷ (p ++ tabbed ps)
+
+joined : (w : Bytes) (ps : List Bytes) → join tab (w ∷ ps) ≡ w ++ tabbed ps
 unfolding join
-one_more_lem w a = refl
+joined w [] = sym (append-nil w)
+joined w (p ∷ ps) = ap (λ (x : Bytes). w ++ (tab ∷ x)) (joined p ps)
 
-pub two_more : (w a b : Bytes) → join tab (w ∷ a ∷ b ∷ []) ≡ join tab (w ∷ a ∷ []) ++ (tab ∷ b)
+both_tabbed : (ps qs : List Bytes) → tabbed (ps ++ qs) ≡ tabbed ps ++ tabbed qs
+both_tabbed [] qs = refl
+both_tabbed (p ∷ ps) qs = ap (λ (x : Bytes). tab ∷ x) (rw (both_tabbed ps qs) (sym (append_assoc p (tabbed ps) (tabbed qs))))
+
+-- fields more
+pub more_fields : (w : Bytes) (ps qs : List Bytes) → join tab (w ∷ (ps ++ qs)) ≡ join tab (w ∷ ps) ++ tabbed qs
+more_fields w ps qs = rw (joined w (ps ++ qs), joined w ps, both_tabbed ps qs) (sym (append_assoc w (tabbed ps) (tabbed qs)))
+
+-- ---- a word and the first numbers of a list
+abbrev pub numbered : Bytes → List ℕ → Bytes
+numbered w ns = join tab (w ∷ map decimal ns)
+
+-- the word, and then the fields
+pub word_first : (w : Bytes) (ns : List ℕ) → numbered w ns ≡ w ++ tabbed (map decimal ns)
+word_first w ns = joined w (map decimal ns)
+
+pub numbered_none : (w : Bytes) → numbered w [] ≡ w
 unfolding join
-two_more w a b = simp append_assoc
+numbered_none w = refl
 
-pub three_more : (w a b c : Bytes) → join tab (w ∷ a ∷ b ∷ c ∷ []) ≡ join tab (w ∷ a ∷ b ∷ []) ++ (tab ∷ c)
-unfolding join
-three_more w a b c = simp append_assoc
+pub numbered_more : (w : Bytes) (ns : List ℕ) (i : ℕ) → i < length ns → numbered w (take (i + 1) ns) ≡ numbered w (take i ns) ++ (tab ∷ decimal (get_or ns i 0))
+numbered_more w ns i h =
+    let one : List ℕ = get_or ns i 0 ∷ [] in
+    rw (take_more ns i 0 h, map-append decimal (take i ns) one, more_fields w (map decimal (take i ns)) (map decimal one)) (simp append-nil)
 
-pub four_more : (w a b c d : Bytes) → join tab (w ∷ a ∷ b ∷ c ∷ d ∷ []) ≡ join tab (w ∷ a ∷ b ∷ c ∷ []) ++ (tab ∷ d)
-unfolding join
-four_more w a b c d = simp append_assoc
+pub numbered_all : (w : Bytes) (ns : List ℕ) (i : ℕ) → i ≡ length ns → numbered w ns ≡ numbered w (take i ns)
+numbered_all w ns i e = ap (numbered w) (sym (rw e (take-length ns)))
 
-pub rot_more :
-    (w a : Bytes) (z : ℤ) → SFits w16 z → join tab (w ∷ a ∷ amount_text z ∷ []) ≡ join tab (w ∷ a ∷ []) ++ (tab ∷ amount_text (held z))
-rot_more w a z h = rw (← amount_held z h) (two_more w a (amount_text z))
+-- the numbers after the next one
+abbrev pub numbers_left : List ℕ → ℕ → Bytes
+numbers_left ns i = tabbed (map decimal (drop (i + 1) ns))
 
-pub amount_more : (z : ℤ) → SFits w16 z → tab ∷ amount_text z ≡ (tab ∷ []) ++ amount_text (held z)
-amount_more z h = ap (λ (x : Bytes). tab ∷ x) (amount_held z h)
+pub numbered_next : (w : Bytes) (ns : List ℕ) (i : ℕ) → i < length ns →
+    numbered w ns ≡ numbered w (take i ns) ++ ((tab ∷ decimal (get_or ns i 0)) ++ numbers_left ns i)
+numbered_next w ns i h =
+    let parts : ns ≡ take (i + 1) ns ++ drop (i + 1) ns = sym (take-append-drop (i + 1) ns) in
+    ap (numbered w) parts
+    ∙ rw (map-append decimal (take (i + 1) ns) (drop (i + 1) ns), more_fields w (map decimal (take (i + 1) ns)) (map decimal (drop (i + 1) ns)), numbered_more w ns i h)
+    (append_assoc (numbered w (take i ns)) (tab ∷ decimal (get_or ns i 0)) (numbers_left ns i))
 
-pub one_goes_on : (w a : Bytes) → GoesOn w (join tab (w ∷ a ∷ []))
-one_goes_on w a = goes_on w tab a (join tab (w ∷ a ∷ [])) (one_more_lem w a)
-
-pub two_goes_on : (w a b : Bytes) → GoesOn (join tab (w ∷ a ∷ [])) (join tab (w ∷ a ∷ b ∷ []))
-two_goes_on w a b = goes_on (join tab (w ∷ a ∷ [])) tab b (join tab (w ∷ a ∷ b ∷ [])) (two_more w a b)
-
-pub three_goes_on : (w a b c : Bytes) → GoesOn (join tab (w ∷ a ∷ b ∷ [])) (join tab (w ∷ a ∷ b ∷ c ∷ []))
-three_goes_on w a b c = goes_on (join tab (w ∷ a ∷ b ∷ [])) tab c (join tab (w ∷ a ∷ b ∷ c ∷ [])) (three_more w a b c)
-
-pub four_goes_on : (w a b c d : Bytes) → GoesOn (join tab (w ∷ a ∷ b ∷ c ∷ [])) (join tab (w ∷ a ∷ b ∷ c ∷ d ∷ []))
-four_goes_on w a b c d = goes_on (join tab (w ∷ a ∷ b ∷ c ∷ [])) tab d (join tab (w ∷ a ∷ b ∷ c ∷ d ∷ [])) (four_more w a b c d)
-
-pub ruleset field_texts = (one_more_lem, two_more, three_more, four_more, rot_more, amount_more, one_goes_on, two_goes_on, three_goes_on, four_goes_on)
-
-pub one_counted : (w a : Bytes) (q : ℕ) → length w ≤ 8 → Counted a 20 q → Counted (join tab (w ∷ a ∷ [])) 29 (length w + 1 + q)
-one_counted w a q h c =
-    record { counted = omega (arith, ap length (one_more_lem w a), length-append w (tab ∷ a)); bounded = omega (arith, c.bounded) }
+-- ---- an amount after numbers
+pub amount_more :
+    (w : Bytes) (ns : List ℕ) (z : ℤ) → SFits w16 z →
+    join tab (w ∷ (map decimal ns ++ (amount_text z ∷ []))) ≡ numbered w ns ++ (tab ∷ amount_text (held z))
+amount_more w ns z h = rw (more_fields w (map decimal ns) (amount_text z ∷ []), amount_held z h) (simp append-nil)
 
 -- ---- the line feed
 pub line_end : (p : Bytes) → text_of (p ∷ []) ≡ p ++ (line_feed ∷ [])
 unfolding text_of
 line_end p = refl
-
-pub line_goes_on : (p : Bytes) → GoesOn p (text_of (p ∷ []))
-line_goes_on p = goes_on p line_feed [] (text_of (p ∷ [])) (line_end p)
-
-pub ruleset line_texts = (line_end, line_goes_on)

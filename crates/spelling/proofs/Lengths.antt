@@ -1,30 +1,23 @@
--- Lengths of texts that are made of shorter ones, and their bounds. Assumes nothing.
-use Prim.Native.Nat.{ℕ, ◌+◌, ◌≤◌}
-use mathlib.Core.List.{[], ◌∷◌, ◌++◌}
-use mathlib.Core.Path.{◌≡◌, ap}
+-- How long texts can be. Assumes nothing.
+use Prim.Native.Nat.{ℕ, suc, ◌+◌, ◌*◌, ◌≤◌}
+use mathlib.Core.List.{List, [], ◌∷◌, map}
+use mathlib.Core.Path.{ap}
 use native.Mathlib.Omega.{arith}
-use lib.Dec.{lit≤}
+use lib.IntN.{ℤ, pos, negsuc}
 use lib.ListN.{length, length-append}
-use Rattle.fields.specs.Pieces.{Bytes, tab, line_feed}
-use Rattle.spelling.specs.Put.{Counted}
+use Rattle.fields.specs.Pieces.{Bytes}
+use Rattle.fields.specs.Numbers.{decimal, amount_text}
+use Rattle.spelling.proofs.Digits.{at_most}
+use Rattle.spelling.proofs.Fields.{numbered, tabbed, word_first}
 
--- a text under another name
-pub counted_same : (x z : Bytes) (m n r : ℕ) → z ≡ x → Counted x m r → m ≤ n → Counted z n r
-counted_same x z m n r e c h = record { counted = omega (arith, ap length e); bounded = omega (arith, c.bounded) }
+tabbed_most : (ns : List ℕ) → length (tabbed (map decimal ns)) ≤ 21 * length ns
+tabbed_most [] = omega arith
+tabbed_most (n ∷ ns) = omega (arith, tabbed_most ns, at_most 20 n, length-append (decimal n) (tabbed (map decimal ns)))
 
--- x, a tab and y
-pub counted_field :
-    (x y z : Bytes) (k m n q r : ℕ) → z ≡ x ++ (tab ∷ y) → Counted x m r → Counted y n q → m + 1 + n ≤ k →
-    Counted z k (r + 1 + q)
-counted_field x y z k m n q r e c d h =
-    record { counted = omega (arith, ap length e, length-append x (tab ∷ y)); bounded = omega (arith, c.bounded, d.bounded) }
+-- a word and numbers
+pub numbered_most : (w : Bytes) (ns : List ℕ) → length (numbered w ns) ≤ length w + 21 * length ns
+numbered_most w ns = omega (arith, ap length (word_first w ns), length-append w (tabbed (map decimal ns)), tabbed_most ns)
 
--- a minus before x, and a line feed past it
-pub counted_minus : (x z : Bytes) (m n r : ℕ) → z ≡ 45 ∷ x → Counted x m r → m + 1 ≤ n → Counted z n (r + 1)
-counted_minus x z m n r e c h = record { counted = omega (arith, ap length e); bounded = omega (arith, c.bounded) }
-
-pub counted_line_lem : (x z : Bytes) (m n r : ℕ) → z ≡ x ++ (line_feed ∷ []) → Counted x m r → m + 1 ≤ n → Counted z n (r + 1)
-counted_line_lem x z m n r e c h =
-    record { counted = omega (arith, ap length e, length-append x (line_feed ∷ [])); bounded = omega (arith, c.bounded) }
-
-pub ruleset lengths = (counted_same, counted_field, counted_minus, counted_line_lem, lit≤)
+pub amount_most : (z : ℤ) → length (amount_text z) ≤ 21
+amount_most (pos n) = omega (arith, at_most 20 n)
+amount_most (negsuc n) = omega (arith, at_most 20 (suc n))

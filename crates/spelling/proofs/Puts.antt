@@ -1,4 +1,4 @@
--- Texts put into a buffer: a byte, a run of bytes, nothing, one text after another, and the room for each. Assumes nothing.
+-- Texts put into a buffer: a byte, a run of bytes, nothing, and one text after another. Assumes nothing.
 use Prim.Native.Nat.{ℕ, ◌+◌, ◌≤◌, ◌<◌}
 use mathlib.Core.List.{[], ◌∷◌, ◌++◌, append_assoc}
 use mathlib.Core.Path.{◌≡◌, refl, sym, ap, ◌∙◌}
@@ -39,9 +39,6 @@ module _ (s : Bytes) (at : ℕ) (x y z : Bytes) (l : at + length z ≤ length s)
   z_length = ap length e ∙ length-append x y
 
   module _ (p : ℕ) (s1 : Bytes) (first : Put s at x p s1) where
-    pub next_room : length s1 ≡ length s → p + length y ≤ length s1
-    next_room k = omega (arith, z_length, first.place)
-
     pub put_both : (r : ℕ) (s2 : Bytes) → Put s1 p y r s2 → Put s at z r s2
     put_both r s2 next =
         let front : Bytes = take at s ++ x in
@@ -56,27 +53,3 @@ module _ (s : Bytes) (at : ℕ) (x y z : Bytes) (l : at + length z ≤ length s)
           place = omega (arith, next.place, first.place, z_length);
           bytes = next.bytes ∙ rw (before, past, e, append_assoc (take at s) x, append_assoc x y);
         }
-
--- ---- a text z that begins with x and goes on
-pub record GoesOn (x z : Bytes) : Type 0 where
-  pub longer : length x < length z
-
-pub goes_on : (x : Bytes) (b : ℕ) (y z : Bytes) → z ≡ x ++ (b ∷ y) → GoesOn x z
-goes_on x b y z e = record { longer = omega (arith, ap length e, length-append x (b ∷ y)) }
-
-module _ (s : Bytes) (at : ℕ) (x z : Bytes) (l : at + length z ≤ length s) (g : GoesOn x z) where
-  pub first_room : at + length x ≤ length s
-  first_room = omega (arith, g.longer)
-
-  pub byte_room : (p : ℕ) (s1 : Bytes) → Put s at x p s1 → length s1 ≡ length s → p < length s1
-  byte_room p s1 first k = omega (arith, g.longer, first.place)
-
--- ---- a text under another name
-module _ (s : Bytes) (at : ℕ) (x z : Bytes) (e : z ≡ x) where
-  pub same_room : at + length z ≤ length s → at + length x ≤ length s
-  same_room l = omega (arith, ap length e)
-
-  pub put_same : (r : ℕ) (s1 : Bytes) → Put s at x r s1 → Put s at z r s1
-  put_same r s1 p = rw e p
-
-pub ruleset puts = (first_room, byte_room, next_room, same_room, put_both, put_same, put_nothing)

@@ -5,11 +5,9 @@
 // byte 28. Of a listing the table is printed as it holds the lines: levels counted down, and `ds A` as `rs A 0`.
 #![tactic(auto)]
 
-ghost use Rattle.std.specs.Prelude.{◌≤◌, length, IfOk};
-
-use model::Header;
-use reader::FileRead;
-use std::io::{self, Print, Read};
+use model::{Header, Refusal};
+use reader::FileTable;
+use std::io::{self, Print};
 use tables::Record;
 
 fn print_front(rt: &impl Print, bytes: &[u8], n: usize) -> io::Result<()> {
@@ -43,38 +41,31 @@ fn print_table<'a>(
     print_front(rt, &out, n)
 }
 
-fn print_refusal(rt: &impl Print, number: u32, place: u32) -> io::Result<()> {
-    println!(rt; "refused\t{number}\t{place}")
+fn print_refusal(rt: &impl Print, refusal: Refusal) -> io::Result<()> {
+    println!(rt; "refused\t{}\t{}", refusal.fault.number(), refusal.place)
 }
 
 fn print_reading<'a>(
     rt: &impl Print,
     word: &'a [u8],
-    reading: FileRead,
+    reading: Result<FileTable, Refusal>,
     records: &'a [Record],
 ) -> io::Result<()> {
     match reading {
-        FileRead::Table { header, count } => print_table(rt, word, header, records, count),
-        FileRead::Refused { number, place } => print_refusal(rt, number, place),
+        Ok(FileTable { header, count }) => print_table(rt, word, header, records, count),
+        Err(refusal) => print_refusal(rt, refusal),
     }
 }
 
 fn print_text(rt: &impl Print, kind: u8, text: &[u8]) -> io::Result<()> {
     let mut records = [tables::FREE; 1792];
-    if kind == b'c' {
-        let reading = reader::read_circuit(text, &mut records);
-        return print_reading(rt, b"circuit", reading, &records);
-    }
-    if kind == b's' {
-        let reading = reader::read_schedule(text, &mut records);
-        return print_reading(rt, b"schedule", reading, &records);
-    }
-    if kind == b'r' {
-        let reading = reader::read_listing(text, &mut records);
-        return print_reading(rt, b"rising", reading, &records);
-    }
-    let reading = reader::read_erase(text, &mut records);
-    print_reading(rt, b"schedule", reading, &records)
+    let (word, reading): (&[u8], Result<FileTable, Refusal>) = match kind {
+        b'c' => (b"circuit", reader::read_circuit(text, &mut records)),
+        b's' => (b"schedule", reader::read_schedule(text, &mut records)),
+        b'r' => (b"rising", reader::read_listing(text, &mut records)),
+        _ => (b"schedule", reader::read_erase(text, &mut records)),
+    };
+    print_reading(rt, word, reading, &records)
 }
 
 // One text after its line.
@@ -89,6 +80,7 @@ fn print_entry(rt: &impl Print, entry: &[u8]) -> io::Result<()> {
 
 fn print_all(rt: &impl Print, texts: &[u8]) -> io::Result<()> {
     let mut at: usize = 0;
+    // Where a text ends is known once it is found, so the turns are not counted.
     while at < texts.len() {
         let rest = &texts[at..];
         let end = fields::find(rest, 28);
@@ -98,23 +90,8 @@ fn print_all(rt: &impl Print, texts: &[u8]) -> io::Result<()> {
     Ok(())
 }
 
-// Reads until the buffer is full or the input ends, and tells how many bytes stand at the buffer's front.
-fn read_full<R: Read>(input: &mut R, buffer: &mut [u8]) -> io::Result<usize>
-    ensures { IfOk result (λ n. n ≤ length buffer.new) }
-{
-    let mut done = 0;
-    while done < buffer.len() {
-        let more = input.read(&mut buffer[done..])?;
-        if more == 0 {
-            break;
-        }
-        done += more;
-    }
-    Ok(done)
-}
-
 fn main(rt: HostRuntime) -> io::Result<()> {
     let mut texts = [0u8; 65536];
-    let n = read_full(&mut rt.stdin(), &mut texts)?;
+    let n = inputs::read_full(&mut rt.stdin(), &mut texts)?;
     print_all(&rt, &texts[..n])
 }

@@ -2,5 +2,4 @@ pub mod Amounts
 pub mod Beside
 pub mod HeldLines
 pub mod Records
-pub mod Sameness
 pub mod Words

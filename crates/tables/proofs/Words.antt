@@ -1,13 +1,10 @@
--- A record's first number and the line that it holds. Assumes nothing.
+-- A record's word and the line that it holds. Assumes nothing.
 use Prim.Native.Nat.{ℕ, ◌/◌, ◌%◌, ◌≤◌, ◌<◌}
-use native.Mathlib.Decide.{dec_le}
 use native.Mathlib.Omega.{arith}
-use mathlib.Core.Bool.{Bool, cond}
+use mathlib.Core.Bool.{Bool}
 use mathlib.Core.Path.{◌≡◌, refl, sym, ap, ◌∙◌}
 use mathlib.Core.List.{List, [], ◌∷◌}
 use borrow.Author.Rules.{rules}
-use borrow.Author.Tests.{ne_eqb}
-use lib.Dec.{ltb, eqb}
 use lib.IntN.{ℤ, pos}
 use lib.ListN.{length, get_or, length-take, get_or-map, get_or-eq_default}
 use lib.Seq.{get_or-take}
@@ -15,28 +12,28 @@ use Rattle.model.specs.declared.Line.{Line}
 use Rattle.model.specs.declared.Line.TheVariants as Lines
 use Rattle.model.specs.declared.Line.TheVariants.{Free}
 use Rattle.model.specs.declared.Kind.{Kind}
-use Rattle.model.specs.declared.Kind.TheVariants.{Ciphertext, Constant, Encoded, Nothing}
+use Rattle.model.specs.declared.Kind.TheVariants.{Nothing}
 use Rattle.model.specs.declared.Word.{Word}
-use Rattle.model.specs.declared.Word.TheVariants.{Const, Rot, NoWord}
-use Rattle.model.specs.Words.{entry, words}
+use Rattle.model.specs.declared.Word.TheVariants.{Const, Rot}
+use Rattle.model.specs.Words.{entry}
 use Rattle.model.specs.Files as Files
 use Rattle.model.specs.Files.{word_of, kind_of, kind_at, is_constant}
 use Rattle.model.proofs.EveryWord.{each_word}
 use Rattle.tables.proofs.Amounts.{amount_back}
-use Rattle.tables.specs.Records.{amount_from, word_number, word_from, record_with, record_of, first_held, second_held, line_with, line_from, line_of, lines_of, lines_held, struck_word, is_struck}
+use Rattle.tables.specs.declared.Record.{Record}
+use Rattle.tables.specs.Records.{amount_from, record_with, record_of, free_record, first_held, second_held, line_with, line_of, lines_of, lines_held, struck_word, is_struck}
 
 -- ---- the record of a line
 -- the record of a word and its three numbers
-pub record_line : (w : Word) (n a b c : ℕ) → n ≡ word_number w → line_of (n ∷ a ∷ b ∷ c ∷ []) ≡ line_with w a b c
-unfolding line_of line_from
-record_line w n a b c e =
-    ap (λ (v : Word). line_with v a b c) (ap word_from e ∙ each_word (λ v. word_from (word_number v)) (λ v. v) refl w)
+pub record_line : (w : Word) (a b c : ℕ) → line_of (record_with w a b c) ≡ line_with w a b c
+unfolding line_of
+record_line w a b c = refl
 
 -- a constant number in two halves
 pub halves_line : (k : ℕ) → line_with Const (k % 65536) (k / 65536) 0 ≡ Lines.Const k
 halves_line k = ap Lines.Const (omega arith)
 
-module _ (x : Line) (r : List ℕ) where
+module _ (x : Line) (r : Record) where
   pub recorded : (y : Line) → x ≡ y → r ≡ record_of y → r ≡ record_of x
   recorded y e is = rw e is
 
@@ -59,115 +56,53 @@ module _ (x : Line) (r : List ℕ) where
 
 pub ruleset record_laws = (rules, record_line, recorded, held_by_lem, rotation_recorded, rotation_held, halves_recorded, halves_held)
 
--- the line of record i
-pub record_held : (records : List (List ℕ)) (i : ℕ) → line_of (get_or records i []) ≡ get_or (lines_of records) i Free
-unfolding line_from line_of
-record_held records i = sym (get_or-map line_of records i [])
-
--- where the code has read its four numbers
-pub line_held :
-    (records : List (List ℕ)) (i : ℕ) (x : Line) →
-    x ≡ line_from (get_or (get_or records i []) 0 0) (get_or (get_or records i []) 1 0) (get_or (get_or records i []) 2 0) (get_or (get_or records i []) 3 0) →
-    x ≡ get_or (lines_of records) i Free
+-- ---- the line of a record
+-- by its word
+pub word_line : (r : Record) (w : Word) (x : Line) → r.word ≡ w → x ≡ line_with w r.first r.second r.third → x ≡ line_of r
 unfolding line_of
-line_held records i x e = e ∙ record_held records i
-
--- ---- a word's number
-low : (n : ℕ) → (n ≡ 1 → ⊥) → (n ≡ 2 → ⊥) → (n ≡ 3 → ⊥) → (n ≡ 4 → ⊥) → (n ≡ 5 → ⊥) → (n ≡ 6 → ⊥) → n ≤ 6 → n ≡ 0
-low n n1 n2 n3 n4 n5 n6 h = omega arith
-
-high : (n : ℕ) → (n ≡ 7 → ⊥) → (n ≡ 8 → ⊥) → (n ≡ 9 → ⊥) → (n ≡ 10 → ⊥) → (n ≡ 11 → ⊥) → 7 ≤ n → 11 < n
-high n n7 n8 n9 n10 n11 h = omega arith
-
-module _ (n : ℕ) where
-  -- the number of a word
-  pub numbered : (m : ℕ) (w : Word) → n ≡ m → w ≡ word_from m → w ≡ word_from n
-  numbered m w e is = is ∙ ap word_from (sym e)
-
-  -- any other
-  pub unnumbered :
-      (n ≡ 1 → ⊥) → (n ≡ 2 → ⊥) → (n ≡ 3 → ⊥) → (n ≡ 4 → ⊥) → (n ≡ 5 → ⊥) → (n ≡ 6 → ⊥) → (n ≡ 7 → ⊥) → (n ≡ 8 → ⊥) →
-      (n ≡ 9 → ⊥) → (n ≡ 10 → ⊥) → (n ≡ 11 → ⊥) → NoWord ≡ word_from n
-  unnumbered n1 n2 n3 n4 n5 n6 n7 n8 n9 n10 n11 =
-      elim (dec_le n 6) [
-        | yes l ↦ ap word_from (sym (low n n1 n2 n3 n4 n5 n6 l))
-        | no l ↦ sym (get_or-eq_default (NoWord ∷ words) NoWord (high n n7 n8 n9 n10 n11 (seven l)))
-      ]
-    where
-      seven : (n ≤ 6 → ⊥) → 7 ≤ n
-      seven l = omega arith
-
-pub word_numbered : (w v : Word) (n : ℕ) → w ≡ v → n ≡ word_number v → n ≡ word_number w
-word_numbered w v n is e = e ∙ ap word_number (sym is)
-
-pub ruleset number_laws = (rules, word_numbered, numbered, unnumbered)
-
--- ---- the line of a word and its numbers
-pub word_line : (w v : Word) (n a b c : ℕ) (x : Line) → w ≡ word_from n → w ≡ v → x ≡ line_with v a b c → x ≡ line_from n a b c
-unfolding line_from
-word_line w v n a b c x from is e = e ∙ ap (λ (u : Word). line_with u a b c) (sym is ∙ from)
+word_line r w x is e = e ∙ ap (λ (u : Word). line_with u r.first r.second r.third) (sym is)
 
 pub ruleset word_laws = (rules, word_line)
 
--- ---- the kind of a line by its record's first number
+-- of record i
+pub record_held : (records : List Record) (i : ℕ) → line_of (get_or records i free_record) ≡ get_or (lines_of records) i Free
+unfolding line_of
+record_held records i = sym (get_or-map line_of records i free_record)
+
+pub line_held : (records : List Record) (i : ℕ) (x : Line) → x ≡ line_of (get_or records i free_record) → x ≡ get_or (lines_of records) i Free
+line_held records i x e = e ∙ record_held records i
+
+-- ---- the kind of a record's line by its word
 pub line_word : (w : Word) (ns : List ℤ) → word_of (Files.line_of w ns) ≡ w
 line_word w ns = each_word (λ v. word_of (Files.line_of v ns)) (λ v. v) refl w
 
 pub word_with : (w : Word) (a b c : ℕ) → word_of (line_with w a b c) ≡ w
 word_with w a b c = line_word w (first_held w a b ∷ second_held w b ∷ pos c ∷ [])
 
-word_held : (n a b c : ℕ) → word_of (line_from n a b c) ≡ word_from n
-unfolding line_from
-word_held n a b c = word_with (word_from n) a b c
+pub record_word : (r : Record) → word_of (line_of r) ≡ r.word
+unfolding line_of
+record_word r = word_with r.word r.first r.second r.third
 
--- the word of record i, where the code has read its first number
-word_at : (records : List (List ℕ)) (i : ℕ) (w : Word) → w ≡ word_from (get_or (get_or records i []) 0 0) → w ≡ word_of (get_or (lines_of records) i Free)
-unfolding line_of line_from
-word_at records i w is =
-    is
-    ∙ sym (word_held (get_or (get_or records i []) 0 0) (get_or (get_or records i []) 1 0) (get_or (get_or records i []) 2 0) (get_or (get_or records i []) 3 0))
-    ∙ ap word_of (line_held records i _ refl)
+module _ (records : List Record) (i : ℕ) where
+  word_at : (get_or records i free_record).word ≡ word_of (get_or (lines_of records) i Free)
+  word_at = sym (record_word (get_or records i free_record)) ∙ ap word_of (record_held records i)
 
--- the kind by the word's number, as the code tells it: one test over the table
-abbrev kind_numbered : ℕ → Kind
-kind_numbered n = cond (eqb n 0) Nothing (cond (eqb n 2) Constant (cond (eqb n 7) Nothing (cond (eqb n 8) Encoded Ciphertext)))
+  kind_held : (k : Kind) → k ≡ (entry (get_or records i free_record).word).kind → k ≡ kind_at (lines_of records) i
+  kind_held k e = e ∙ ap (λ (v : Word). (entry v).kind) word_at
 
-module _ (w : Word) (n : ℕ) (q : n ≡ word_number w) where
-  kind_told : kind_numbered n ≡ (entry w).kind
-  kind_told = ap kind_numbered q ∙ each_word (λ v. kind_numbered (word_number v)) (λ v. (entry v).kind) refl w
+  pub constant_held : (k : Kind) (b : Bool) → k ≡ (entry (get_or records i free_record).word).kind → b ≡ is_constant k → b ≡ is_constant (kind_at (lines_of records) i)
+  constant_held k b is e = e ∙ ap is_constant (kind_held k is)
 
-  pub kind_numbered_lem : (m : ℕ) (k : Kind) → n ≡ m → kind_numbered m ≡ k → k ≡ (entry w).kind
-  kind_numbered_lem m k e is = sym is ∙ ap kind_numbered (sym e) ∙ kind_told
+  pub struck_there : (b : Bool) → b ≡ struck_word (get_or records i free_record).word → b ≡ is_struck (get_or (lines_of records) i Free)
+  struck_there b e = e ∙ ap struck_word word_at
 
-  pub kind_other : (n ≡ 0 → ⊥) → (n ≡ 2 → ⊥) → (n ≡ 7 → ⊥) → (n ≡ 8 → ⊥) → Ciphertext ≡ (entry w).kind
-  kind_other n0 n2 n7 n8 = let other : Ciphertext ≡ kind_numbered n = rw (ne_eqb n 0 n0, ne_eqb n 2 n2, ne_eqb n 7 n7, ne_eqb n 8 n8) in other ∙ kind_told
+  module _ (count : ℕ) where
+    pub kind_past : count ≤ length records → count ≤ i → Nothing ≡ kind_at (lines_held records count) i
+    kind_past few h =
+        let long : length (lines_held records count) ≤ i = omega (arith, length-take count (lines_of records)) in
+        ap kind_of (sym (get_or-eq_default (lines_held records count) Free long))
 
-kind_held : (records : List (List ℕ)) (a : ℕ) (w : Word) (k : Kind) → w ≡ word_from (get_or (get_or records a []) 0 0) → k ≡ (entry w).kind → k ≡ kind_at (lines_of records) a
-kind_held records a w k is e = e ∙ ap (λ (v : Word). (entry v).kind) (word_at records a w is)
+    pub kind_there : (k : Kind) → i < count → k ≡ (entry (get_or records i free_record).word).kind → k ≡ kind_at (lines_held records count) i
+    kind_there k h e = kind_held k e ∙ ap kind_of (sym (get_or-take count (lines_of records) i Free h))
 
-pub constant_held :
-    (records : List (List ℕ)) (a : ℕ) (w : Word) (k v : Kind) (b : Bool) → w ≡ word_from (get_or (get_or records a []) 0 0) → k ≡ (entry w).kind → k ≡ v →
-    is_constant v ≡ b → b ≡ is_constant (kind_at (lines_of records) a)
-constant_held records a w k v b is e which test = sym test ∙ ap is_constant (sym which ∙ kind_held records a w k is e)
-
-module _ (records : List (List ℕ)) (count : ℕ) (few : count ≤ length records) (a : ℕ) where
-  pub kind_past : count ≤ a → Nothing ≡ kind_at (lines_held records count) a
-  kind_past h =
-      let long : length (lines_held records count) ≤ a = omega (arith, length-take count (lines_of records)) in
-      ap kind_of (sym (get_or-eq_default (lines_held records count) Free long))
-
-  pub kind_there : (w : Word) (k : Kind) → a < count → w ≡ word_from (get_or (get_or records a []) 0 0) → k ≡ (entry w).kind → k ≡ kind_at (lines_held records count) a
-  kind_there w k h is e = kind_held records a w k is e ∙ ap kind_of (sym (get_or-take count (lines_of records) a Free h))
-
-pub ruleset kind_laws = (rules, kind_numbered_lem, kind_other, kind_past, kind_there, constant_held)
-
--- ---- the words that erasing strikes have the highest numbers
-pub struck_is : (w : Word) (n : ℕ) → n ≡ word_number w → ltb 7 n ≡ struck_word w
-struck_is w n e = ap (ltb 7) e ∙ each_word (λ v. ltb 7 (word_number v)) struck_word refl w
-
-pub struck_there :
-    (records : List (List ℕ)) (i : ℕ) (w : Word) (b : Bool) → w ≡ word_from (get_or (get_or records i []) 0 0) → b ≡ struck_word w →
-    b ≡ is_struck (get_or (lines_of records) i Free)
-struck_there records i w b is e = e ∙ ap struck_word (word_at records i w is)
-
-pub ruleset struck_laws = (rules, struck_is, struck_there)
+pub ruleset held_laws = (rules, kind_past, kind_there, constant_held, struck_there)

@@ -6,12 +6,14 @@ ghost use Rattle.model.specs.declared.Line.TheVariants.{Free};
 ghost use Rattle.model.specs.Words.{entry};
 ghost use Rattle.model.specs.Files.{kind_at, is_ciphertext, is_constant};
 ghost use Rattle.model.specs.Answers.{same_line};
-ghost use Rattle.tables.specs.Records.{amount_from, word_number, word_from, record_with, record_of, line_with, line_from, line_of, lines_of, lines_held, struck_word, is_struck, numbers_agree};
+ghost use Rattle.tables.specs.Records.{amount_from, word_number, record_with, record_of, line_with, line_of, lines_of, lines_held, struck_word, is_struck};
+
+pub mod files;
 
 use model::{Kind, Line, Word};
 
 // ---- words
-// The number of a word in a record: the words in document 01's order from 1; 0 is no word's.
+// The number of a word, by which the table of prices goes (docs/DECISIONS.md, 89): the words in document 01's order from 1; 0 is no word's.
 pub fn number_of(word: Word) -> u16
     ensures { result ≡ word_number word }
 {
@@ -31,52 +33,42 @@ pub fn number_of(word: Word) -> u16
     }
 }
 
-// The word with this number.
-fn word_from(number: u16) -> Word
-    ensures { result ≡ word_from number }
-{
-    match number {
-        1 => Word::In,
-        2 => Word::Const,
-        3 => Word::Neg,
-        4 => Word::Rot,
-        5 => Word::Add,
-        6 => Word::Mul,
-        7 => Word::Out,
-        8 => Word::Enc,
-        9 => Word::Rs,
-        10 => Word::Ms,
-        11 => Word::Us,
-        _ => Word::NoWord,
-    }
-}
-
 // What a line with this word can be used as: a ciphertext, but for `const`, `out`, `enc` and no word.
 fn kind_of(word: Word) -> Kind
     ensures { result ≡ (entry word).kind }
 {
-    match number_of(word) {
-        2 => Kind::Constant,
-        8 => Kind::Encoded,
-        0 => Kind::Nothing,
-        7 => Kind::Nothing,
+    match word {
+        Word::Const => Kind::Constant,
+        Word::Enc => Kind::Encoded,
+        Word::Out | Word::NoWord => Kind::Nothing,
         _ => Kind::Ciphertext,
     }
 }
 
-// Whether erasing strikes the lines with this word: a schedule's own words come after those of a circuit.
+// Whether erasing strikes the lines with this word: a schedule's own words.
 fn is_struck(word: Word) -> bool
     ensures { result ≡ struck_word word }
 {
-    7 < number_of(word)
+    matches!(word, Word::Enc | Word::Rs | Word::Ms | Word::Us)
 }
 
 // ---- records
-// A line as its table holds it: its word's number, then its fields, 0 past them.
-pub type Record = [u16; 4];
+// A line as its table holds it: its word, then its fields, 0 past them.
+#[derive(Clone, Copy, PartialEq, Eq)]
+pub struct Record {
+    pub word: Word,
+    pub first: u16,
+    pub second: u16,
+    pub third: u16,
+}
 
 // The record of a free line.
-pub const FREE: Record = [0, 0, 0, 0];
+pub const FREE: Record = Record {
+    word: Word::NoWord,
+    first: 0,
+    second: 0,
+    third: 0,
+};
 
 // A rotation's amount as its record holds it.
 pub fn shifted(amount: i16) -> u16
@@ -85,6 +77,7 @@ pub fn shifted(amount: i16) -> u16
     ((amount as i32) + 32768) as u16
 }
 
+#[tactic(auto, using(crate::proofs::Amounts::amount_is))]
 fn amount_from(number: u16) -> i16
     ensures { result ≡ amount_from number }
 {
@@ -111,14 +104,20 @@ fn from_halves(low: u16, high: u16) -> u32
 }
 
 // The record with this word and these numbers.
+#[tactic(auto, unfolding(crate::specs::Records::line_of))]
 pub fn record_with(word: Word, first: u16, second: u16, third: u16) -> Record
     ensures value { result ≡ record_with word first second third }
     ensures line { line_of result ≡ line_with word first second third }
 {
-    [number_of(word), first, second, third]
+    Record {
+        word,
+        first,
+        second,
+        third,
+    }
 }
 
-// The record that holds a line.
+// The record that holds a line. No From: it promises two facts, which that would take as ghost members.
 pub fn record_of(line: Line) -> Record
     ensures value { result ≡ record_of line }
     ensures line { line_of result ≡ line }
@@ -139,40 +138,42 @@ pub fn record_of(line: Line) -> Record
     }
 }
 
-// The line with this word's number and these fields.
-fn line_from(number: u16, a: u16, b: u16, c: u16) -> Line
-    ensures { result ≡ line_from number a b c }
+// The line that a record holds.
+#[tactic(auto, unfolding(crate::specs::Records::line_of))]
+fn line_of(r: Record) -> Line
+    ensures { result ≡ line_of r }
 {
-    match word_from(number) {
+    match r.word {
         Word::In => Line::In,
-        Word::Const => Line::Const(from_halves(a, b)),
-        Word::Neg => Line::Neg(a),
-        Word::Rot => Line::Rot(a, amount_from(b)),
-        Word::Add => Line::Add(a, b),
-        Word::Mul => Line::Mul(a, b),
-        Word::Out => Line::Out(a),
+        Word::Const => Line::Const(from_halves(r.first, r.second)),
+        Word::Neg => Line::Neg(r.first),
+        Word::Rot => Line::Rot(r.first, amount_from(r.second)),
+        Word::Add => Line::Add(r.first, r.second),
+        Word::Mul => Line::Mul(r.first, r.second),
+        Word::Out => Line::Out(r.first),
         Word::Enc => Line::Enc {
-            of: a,
-            scale: b,
-            level: c,
+            of: r.first,
+            scale: r.second,
+            level: r.third,
         },
-        Word::Rs => Line::Rs(a, b),
-        Word::Ms => Line::Ms(a, b),
-        Word::Us => Line::Us(a, b),
+        Word::Rs => Line::Rs(r.first, r.second),
+        Word::Ms => Line::Ms(r.first, r.second),
+        Word::Us => Line::Us(r.first, r.second),
         Word::NoWord => Line::Free,
     }
 }
 
 // The line that record i holds.
+#[tactic(auto, using(crate::proofs::Words::line_held))]
 pub fn line_at(records: &[Record], i: usize) -> Line
     requires { i < length records.now }
     ensures { result ≡ get_or (lines_of records.now) i Free }
 {
-    let record = records[i];
-    line_from(record[0], record[1], record[2], record[3])
+    line_of(records[i])
 }
 
 // The kind of value a among the lines of the first `count` records; past them there is nothing.
+#[tactic(auto, using(crate::proofs::Words::held_laws))]
 pub fn kind_at(records: &[Record], count: usize, a: u64) -> Kind
     requires { count ≤ length records.now }
     ensures { result ≡ kind_at (lines_held records.now count) a }
@@ -180,72 +181,37 @@ pub fn kind_at(records: &[Record], count: usize, a: u64) -> Kind
     if (count as u64) <= a {
         return Kind::Nothing;
     }
-    let at = a as usize;
-    let record = records[at];
-    kind_of(word_from(record[0]))
+    kind_of(records[a as usize].word)
 }
 
 pub fn is_ciphertext(kind: Kind) -> bool
     ensures { result ≡ is_ciphertext kind }
 {
-    match kind {
-        Kind::Ciphertext => true,
-        Kind::Constant => false,
-        Kind::Encoded => false,
-        Kind::Nothing => false,
-    }
+    kind == Kind::Ciphertext
 }
 
 // Whether record a holds a bare constant.
+#[tactic(auto, using(crate::proofs::Words::held_laws))]
 pub fn is_constant(records: &[Record], a: usize) -> bool
     requires { a < length records.now }
     ensures { result ≡ is_constant (kind_at (lines_of records.now) a) }
 {
-    let record = records[a];
-    match kind_of(word_from(record[0])) {
-        Kind::Ciphertext => false,
-        Kind::Constant => true,
-        Kind::Encoded => false,
-        Kind::Nothing => false,
-    }
+    kind_of(records[a].word) == Kind::Constant
 }
 
 // Whether erasing strikes the line that record i holds.
+#[tactic(auto, using(crate::proofs::Words::held_laws))]
 pub fn struck_at(records: &[Record], i: usize) -> bool
     requires { i < length records.now }
     ensures { result ≡ is_struck (get_or (lines_of records.now) i Free) }
 {
-    let record = records[i];
-    is_struck(word_from(record[0]))
+    is_struck(records[i].word)
 }
 
 // ---- comparing
-// Whether two records have the same numbers.
-fn numbers_agree(r: Record, s: Record) -> bool
-    ensures { result ≡ numbers_agree r s }
-{
-    if r[0] != s[0] {
-        return false;
-    }
-    if r[1] != s[1] {
-        return false;
-    }
-    if r[2] != s[2] {
-        return false;
-    }
-    r[3] == s[3]
-}
-
-// Whether two records hold the same line. Those with the same numbers do; of others the lines are compared, by their own records.
+// Whether two records hold the same line.
 pub fn same_record(r: Record, s: Record) -> bool
     ensures { result ≡ same_line (line_of r) (line_of s) }
 {
-    if numbers_agree(r, s) {
-        return true;
-    }
-    let x = line_from(r[0], r[1], r[2], r[3]);
-    let y = line_from(s[0], s[1], s[2], s[3]);
-    let p = record_of(x);
-    let q = record_of(y);
-    numbers_agree(p, q)
+    line_of(r) == line_of(s)
 }

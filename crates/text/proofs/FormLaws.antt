@@ -1,4 +1,6 @@
 -- The header line and the lines of circuits and schedules are lawful forms, and what passes the tests is read back. Assumes nothing.
+use Rattle.std.specs.Prelude as Std
+use Rattle.std.specs.Prelude.{Some, None}
 use Prim.Native.Nat.{ℕ, ◌≤◌}
 use native.Mathlib.Omega.{arith}
 use mathlib.Core.Path.{◌≡◌, refl, ap, ◌∙◌}
@@ -16,8 +18,6 @@ use Rattle.rows.proofs.FormLaws.{LawfulForm, Letters, said_fields, titled_back, 
 use Rattle.model.specs.declared.Grammar.TheVariants.{Circuit, Schedule}
 use Rattle.model.specs.declared.Word.{Word}
 use Rattle.model.specs.declared.Header.{Header}
-use Rattle.model.specs.declared.Headroom.{Headroom}
-use Rattle.model.specs.declared.Headroom.TheVariants.{None, Given}
 use Rattle.model.specs.declared.Line.{Line}
 use Rattle.model.specs.Scales.{three_fields, header_fields, headroom_numbers, header_numbers, header_in_range}
 use Rattle.model.specs.Words.{entry, words, has_word, operands_among}
@@ -30,11 +30,11 @@ use Rattle.text.proofs.WordLaws.{word_letters, named_word, said_held, said_line}
 
 -- ---- the header line
 -- the fields of three numbers, and of four
-abbrev headroom_fields : Headroom → List Holds
+abbrev headroom_fields : Std.Option ℕ → List Holds
 headroom_fields None = []
-headroom_fields (Given bits) = ranged 1 60 ∷ []
+headroom_fields (Some bits) = ranged 1 60 ∷ []
 
-abbrev pub fields_with : Headroom → List Holds
+abbrev pub fields_with : Std.Option ℕ → List Holds
 fields_with given = three_fields ++ headroom_fields given
 
 pub header_bounded : (h : Header) → HeaderFacts h → Fields (Bounded 0 0) (fields_with h.headroom) (header_numbers h)
@@ -43,23 +43,23 @@ header_bounded h facts = field (one facts.factor) (field (one facts.waterline) (
     one : {n : ℕ} → Within 1 60 n → Bounded 0 0 (ranged 1 60) (pos n)
     one {n} w = record { held = number n; bound = w.most }
 
-    last : (given : Headroom) → HeadroomFacts given → Fields (Bounded 0 0) (headroom_fields given) (headroom_numbers given)
+    last : (given : Std.Option ℕ) → HeadroomFacts given → Fields (Bounded 0 0) (headroom_fields given) (headroom_numbers given)
     last None f = no_field
-    last (Given bits) f = field (one f) no_field
+    last (Some bits) f = field (one f) no_field
 
 header_held : (h : Header) → Fields Held (fields_with h.headroom) (header_numbers h)
 header_held h = field (number h.factor) (field (number h.waterline) (field (number h.top) (last h.headroom)))
   where
-    last : (given : Headroom) → Fields Held (headroom_fields given) (headroom_numbers given)
+    last : (given : Std.Option ℕ) → Fields Held (headroom_fields given) (headroom_numbers given)
     last None = no_field
-    last (Given bits) = field (number bits) no_field
+    last (Some bits) = field (number bits) no_field
 
 header_back : (h : Header) → header_of (header_numbers h) ≡ h
 header_back h = go h.headroom refl
   where
-    go : (given : Headroom) → h.headroom ≡ given → header_of (header_numbers h) ≡ h
+    go : (given : Std.Option ℕ) → h.headroom ≡ given → header_of (header_numbers h) ≡ h
     go None e = rw e
-    go (Given bits) e = rw e
+    go (Some bits) e = rw e
 
 pub three_made : {ns : List ℤ} → Fields Held three_fields ns → header_numbers (header_of ns) ≡ ns
 three_made (field (number f) (field (number w) (field (number l) no_field))) = refl
@@ -81,11 +81,11 @@ module _ (word : Bytes) (are : Letters word) where
       made_law header_of header_numbers numbers_form numbers_made
       (either_law (titled word three_fields) (titled word header_fields) (λ ns. refl) (titled_law word three_fields are) (titled_law word header_fields are))
 
-  numbers_forth : (given : Headroom) {ns : List ℤ} → Fields Held (fields_with given) ns → Fields (Bounded 0 0) (fields_with given) ns
+  numbers_forth : (given : Std.Option ℕ) {ns : List ℤ} → Fields Held (fields_with given) ns → Fields (Bounded 0 0) (fields_with given) ns
       → numbers_form.reads (said_text word ns) ≡ some ns
   numbers_forth None {ns} held bounded =
       either_first (titled word three_fields) (titled word header_fields) (said_text word ns) (titled_forth word three_fields are held (all_short 0 0 tt bounded))
-  numbers_forth (Given bits) {ns} held bounded =
+  numbers_forth (Some bits) {ns} held bounded =
       let four = fields_length held in
       either_second (titled word three_fields) (titled word header_fields) (said_text word ns) (titled_fewer word three_fields are ns (omega arith))
       (titled_forth word header_fields are held (all_short 0 0 tt bounded))

@@ -1,4 +1,6 @@
 -- How long the lines of a circuit are: 27 bytes if of the form, 16 if good; and its header: 55 and 19. Assumes nothing.
+use Rattle.std.specs.Prelude as Std
+use Rattle.std.specs.Prelude.{Some, None}
 use Prim.Native.Nat.{ℕ, ◌+◌, ◌*◌, ◌≤◌}
 use native.Mathlib.Omega.{arith}
 use mathlib.Core.Path.{◌≡◌, refl, sym, ap, ◌∙◌, subst}
@@ -18,8 +20,6 @@ use Rattle.rows.proofs.FormLaws.{titled_back, either_back, worded_back, made_bac
 use Rattle.rows.proofs.LengthLaws.{widths, said_width}
 use Rattle.model.specs.declared.Grammar.TheVariants.{Circuit}
 use Rattle.model.specs.declared.Header.{Header}
-use Rattle.model.specs.declared.Headroom.{Headroom}
-use Rattle.model.specs.declared.Headroom.TheVariants.{None, Given}
 use Rattle.model.specs.declared.Line.{Line}
 use Rattle.model.specs.declared.Word.{Word}
 use Rattle.model.specs.Scales.{three_fields, header_fields, header_numbers}
@@ -102,9 +102,9 @@ pub header_length : (h : Header) → HeaderFacts h → length ((header_form Circ
 unfolding decimal_in
 header_length h f = go h.headroom (header_bounded h f)
   where
-    go : (given : Headroom) {ns : List ℤ} → Fields (Bounded 0 0) (fields_with given) ns → length (said_text (header_word Circuit) ns) ≤ 19
+    go : (given : Std.Option ℕ) {ns : List ℤ} → Fields (Bounded 0 0) (fields_with given) ns → length (said_text (header_word Circuit) ns) ≤ 19
     go None b = let long = said_width 0 0 (header_word Circuit) tt b in omega arith
-    go (Given bits) b = let long = said_width 0 0 (header_word Circuit) tt b in omega arith
+    go (Some bits) b = let long = said_width 0 0 (header_word Circuit) tt b in omega arith
 
 pub long_header : (p : Bytes) → 56 ≤ length p → read_header circuits p ≡ bad 1
 long_header p long = go ((header_form Circuit).reads p) refl

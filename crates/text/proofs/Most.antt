@@ -1,4 +1,5 @@
 -- A text has at most 72 bytes a line and 97 in its header line, whatever numbers these have. Assumes nothing.
+use Rattle.std.specs.Prelude.{Option, Some, None}
 use Prim.Native.Nat.{ℕ, ◌+◌, ◌*◌, ◌≤◌}
 use native.Mathlib.Omega.{arith}
 use mathlib.Core.Bool.{◌&&◌}
@@ -14,8 +15,6 @@ use Rattle.rows.specs.Rows as Rows
 use Rattle.rows.proofs.FieldLaws.{fields_length}
 use Rattle.rows.proofs.LengthLaws as Lengths
 use Rattle.rows.proofs.LengthLaws.{said_most, text_length}
-use Rattle.model.specs.declared.Headroom.{Headroom}
-use Rattle.model.specs.declared.Headroom.TheVariants.{None, Given}
 use Rattle.model.specs.declared.Line.{Line}
 use Rattle.model.specs.Scales.{headroom_numbers, header_numbers}
 use Rattle.model.specs.Words.{entry}
@@ -40,9 +39,9 @@ lines_most [] = none
 lines_most (x ∷ xs) = one (line_most x) (lines_most xs)
 
 -- ---- the file: a header has at most four numbers
-numbers_few : (given : Headroom) → length (headroom_numbers given) ≤ 1
+numbers_few : (given : Option ℕ) → length (headroom_numbers given) ≤ 1
 numbers_few None = omega arith
-numbers_few (Given bits) = omega arith
+numbers_few (Some bits) = omega arith
 
 pub text_most : (word : Bytes) (f : File) → length word ≤ 8 → length (text_under word f) ≤ 97 + 72 * length f.lines
 unfolding Rows.file_text

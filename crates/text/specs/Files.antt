@@ -1,5 +1,5 @@
 -- Document 01, "The two files" and "Refused", on texts: circuits, schedules and schedules for erasing, as formats of rows.
-use Rattle.std.specs.Prelude.{ℕ, suc, Bool, true, false, cond, ◌&&◌, ◌||◌, List, [], ◌∷◌, leb, ℤ, length, get_or}
+use Rattle.std.specs.Prelude.{ℕ, suc, Bool, true, false, cond, ◌&&◌, ◌||◌, List, [], ◌∷◌, leb, ℤ, length, get_or, Option, Some, None}
 use Rattle.std.proofs.Math.Option.{none, some}
 use Rattle.fields.specs.Pieces.{Bytes, tab, split}
 use Rattle.rows.specs.Forms.{Form, titled, either, Vocabulary, named, worded, made}
@@ -8,8 +8,6 @@ use Rattle.rows.specs.Rows.{Reading, Format, read_file}
 use Rattle.model.specs.declared.Grammar.{Grammar}
 use Rattle.model.specs.declared.Grammar.TheVariants.{Circuit, Schedule}
 use Rattle.model.specs.declared.Header.{Header}
-use Rattle.model.specs.declared.Headroom.{Headroom}
-use Rattle.model.specs.declared.Headroom.TheVariants.{None, Given}
 use Rattle.model.specs.declared.Line.{Line}
 use Rattle.model.specs.declared.Word.{Word}
 use Rattle.model.specs.Scales.{three_fields, header_fields, header_numbers, header_in_range}
@@ -23,8 +21,8 @@ header_word Circuit = ascii "circuit"
 header_word Schedule = ascii "schedule"
 
 -- document 02, Job 3: "three numbers mean none"
-abbrev pub headroom_of : List ℤ → Headroom
-headroom_of ns = cond (leb (length ns) 3) None (Given (nth ns 3))
+abbrev pub headroom_of : List ℤ → Option ℕ
+headroom_of ns = cond (leb (length ns) 3) None (Some (nth ns 3))
 
 abbrev pub header_of : List ℤ → Header
 header_of ns = record { factor = nth ns 0; waterline = nth ns 1; top = nth ns 2; headroom = headroom_of ns }

@@ -3,7 +3,7 @@ use Prim.Native.Nat.{ℕ, zero, suc, ◌+◌, ◌-◌, ◌≤◌, ◌<◌}
 use native.Mathlib.Omega.{arith}
 use mathlib.Core.Path.{◌≡◌, refl, sym, ap, ap₂, subst, ◌∙◌}
 use mathlib.Core.List.{List, [], ◌∷◌, ◌++◌, map}
-use mathlib.Core.Bool.{Bool, true, false, cond, not, ◌&&◌, ◌||◌}
+use mathlib.Core.Bool.{Bool, true, false, cond, ◌&&◌, ◌||◌}
 use mathlib.Core.Option
 use mathlib.Core.Option.{Option, none, some}
 use borrow.Author.Rules.{rules}
@@ -13,8 +13,8 @@ use lib.ListN.{length, get_or, drop, length-drop}
 use lib.Seq.{get_or-drop}
 use Rattle.fields.specs.Pieces.{Bytes, same_bytes}
 use Rattle.fields.proofs.PieceLaws.{bytes_same, same_bytes_lem}
+use Rattle.fields.proofs.DigitLaws.{none_some}
 use Rattle.rows.specs.Forms.{named}
-use Rattle.rows.proofs.FieldLaws.{none_some}
 use Rattle.rows.proofs.FormLaws.{named_is}
 use Rattle.model.specs.declared.Grammar.{Grammar}
 use Rattle.model.specs.declared.Grammar.TheVariants.{Circuit, Schedule}
@@ -31,7 +31,6 @@ use Rattle.listings.specs.declared.Levels.TheVariants.{Falling, Rising}
 use Rattle.listings.specs.Listings.{ListedWord, word, ds, word_bytes}
 use Rattle.forms.specs.Along.{field_in, ends_field, is_plain}
 use Rattle.forms.proofs.WordLaws.{field_short}
-use Rattle.tables.specs.Records.{word_number}
 use Rattle.words.specs.declared.Spelled.{Spelled}
 use Rattle.words.specs.declared.WordRow.{WordRow}
 use Rattle.words.specs.Words.{or_no_word, word_in, first_byte, candidate_by, candidate_of, word_if, spelled_at, row_of}
@@ -103,12 +102,6 @@ no_word w at t e =
     go false = refl
 
 pub ruleset bytes_laws = (rules, bytes_of, no_word)
-
--- ---- the row of a word
-pub row_is : (w v : Word) (r : WordRow) → w ≡ v → r ≡ row_of v → r ≡ row_of w
-row_is w v r e q = q ∙ ap row_of (sym e)
-
-pub ruleset row_laws = (rules, row_is)
 
 -- a field's bytes are the first of the text
 field_first : (t : Bytes) (i : ℕ) → i < length (field_in t) → get_or (field_in t) i 0 ≡ get_or t i 0
@@ -292,29 +285,4 @@ word_named levels g t v is has = go (named (vocabulary_of levels) (words_of leve
 pub field_named : (levels : Levels) (g : Grammar) (t : Bytes) (v : ListedWord) → v ≡ listed_in levels t → T (has_word g (held_word v)) → field_in t ≡ word_bytes v
 field_named levels g t v is has = sym (named_is (vocabulary_of levels) (words_of levels) (field_in t) (word_named levels g t v is has))
 
--- ---- what a word's number tells: one test over the table each
-module _ (w : Word) (n : ℕ) (q : n ≡ word_number w) where
-  pub amount_by : eqb n 4 ≡ same_word w Rot
-  amount_by = ap (λ (m : ℕ). eqb m 4) q ∙ each_word (λ v. eqb (word_number v) 4) (λ v. same_word v Rot) refl w
-
-  pub constant_by : eqb n 2 ≡ same_word w Const
-  constant_by = ap (λ (m : ℕ). eqb m 2) q ∙ each_word (λ v. eqb (word_number v) 2) (λ v. same_word v Const) refl w
-
-  kept_test : (not (eqb n 0) && leb n 7) ≡ has_word Circuit w
-  kept_test = ap (λ (m : ℕ). not (eqb m 0) && leb m 7) q ∙ each_word (λ v. not (eqb (word_number v) 0) && leb (word_number v) 7) (has_word Circuit) refl w
-
-  pub kept_none : n ≡ 0 → false ≡ has_word Circuit w
-  kept_none e = ap (λ (m : ℕ). not (eqb m 0) && leb m 7) (sym e) ∙ kept_test
-
-  pub kept_few : (n ≡ 0 → ⊥) → leb n 7 ≡ has_word Circuit w
-  kept_few e = ap (λ (b : Bool). not b && leb n 7) (sym (ne_eqb n 0 e)) ∙ kept_test
-
-  pub schedule_some : (g : Grammar) → g ≡ Schedule → not (eqb n 0) ≡ has_word g w
-  schedule_some g e = rw (e, q) (each_word (λ v. not (eqb (word_number v) 0)) (has_word Schedule) refl w)
-
-pub circuit_kept : (g : Grammar) (w : Word) (r k : Bool) → g ≡ Circuit → k ≡ has_word Circuit w → r ≡ k → r ≡ has_word g w
-circuit_kept g w r k e q is = rw e (is ∙ q)
-
 pub ruleset found_laws = (rules, not-true, not-false, falling_none, rising_downscale, downscale_found, word_found_lem)
-
-pub ruleset word_laws = (rules, amount_by, constant_by, kept_none, kept_few, schedule_some, circuit_kept)

@@ -46,6 +46,7 @@ pub struct WordAt {
     pub end: usize,
 }
 
+// A row by its numbers in order: the table below stays one line a word, and under 40 lines.
 fn row(fields: usize, operands: usize, least: i64, largest: u32, asks: OperandsAsked) -> WordRow
     ensures { result ≡ record { fields = fields; operands = operands; least = least; largest = largest; asks = asks } }
 {
@@ -179,25 +180,24 @@ pub fn word_at(levels: Levels, text: &[u8], at: usize) -> WordAt
 pub fn takes_constant(word: Word) -> bool
     ensures { result ≡ same_word word Const }
 {
-    tables::number_of(word) == 2
+    word == Word::Const
 }
 
 // Whether the word's second field is a rotation's amount.
 pub fn takes_amount(word: Word) -> bool
     ensures { result ≡ same_word word Rot }
 {
-    tables::number_of(word) == 4
+    word == Word::Rot
 }
 
-// Whether a circuit has the word, and erasing keeps it: the first seven in the records' numbering.
+// Whether a circuit has the word, and erasing keeps it.
 pub fn is_kept(word: Word) -> bool
     ensures { result ≡ has_word Circuit word }
 {
-    let number = tables::number_of(word);
-    if number == 0 {
-        return false;
-    }
-    number <= 7
+    matches!(
+        word,
+        Word::In | Word::Const | Word::Neg | Word::Rot | Word::Add | Word::Mul | Word::Out
+    )
 }
 
 // Whether a file of this grammar has the word. A schedule has them all.
@@ -206,6 +206,6 @@ pub fn is_word_of(grammar: Grammar, word: Word) -> bool
 {
     match grammar {
         Grammar::Circuit => is_kept(word),
-        Grammar::Schedule => tables::number_of(word) != 0,
+        Grammar::Schedule => word != Word::NoWord,
     }
 }

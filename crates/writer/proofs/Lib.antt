@@ -1,3 +1,3 @@
 -- The laws that the proofs of the functions cite.
-pub mod HeaderFields
 pub mod Lines
+pub mod Lengths

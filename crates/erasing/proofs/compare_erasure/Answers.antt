@@ -5,27 +5,12 @@ use Rattle.erasing.proofs.Comparing.{struck_passed}
 use borrow.Author.Tests.{not-false}
 use Rattle.erasing.proofs.Comparing.{line_agrees}
 
--- src/lib.rt:166:15
-pub erase_line-requires-clause-t : goal.erase_line-requires-clause-t
-erase_line-requires-clause-t c = search compare_laws
-
--- src/lib.rt:166:15
-pub erase_line-requires-clause-i_bound : goal.erase_line-requires-clause-i_bound
-erase_line-requires-clause-i_bound c = search compare_laws
-
--- src/lib.rt:166:15
-pub erase_line-requires-clause-i_bound_2 : goal.erase_line-requires-clause-i_bound_2
-erase_line-requires-clause-i_bound_2 c = search compare_laws
-
--- src/lib.rt:172:21
 pub returns-then-not-goes_on_with : goal.returns-then-not-goes_on_with
 returns-then-not-goes_on_with c = search compare_laws
 
--- src/lib.rt:165:5
 pub loop-i-preserved : goal.loop-i-preserved
 loop-i-preserved c =
     elim c.match-erase_line.branch [ in-Struck w ↦ search struck_passed | in-Kept+else-not-goes_on_with w ↦ search (not-false, line_agrees) ]
 
--- src/lib.rt:146:1
 pub returns : goal.returns
 returns c = search compare_laws

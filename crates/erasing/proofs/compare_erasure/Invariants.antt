@@ -1,10 +1,6 @@
--- `erasing::compare_erasure` meets its contract: the loop's invariant is `Comparing`; the measure is what is left of the schedule. Assumes nothing.
-use Prim.Native.Nat.{◌-◌}
+-- `erasing::compare_erasure` meets its contract: the loop's invariant is `Comparing`. Assumes nothing.
 use Rattle.erasing.proofs.Comparing.{Comparing}
 use Rattle.erasing.proofs.compare_erasure.Given as goal
 
 abbrev pub invariant-loop-i : goal.invariant-loop-i
-invariant-loop-i l = Comparing l.circuit l.size l.schedule l.count l.origins l.at l.i
-
-abbrev pub decreases-loop-i : goal.decreases-loop-i
-decreases-loop-i l = l.count - l.i
+invariant-loop-i l = Comparing l.circuit.records.now l.circuit.count l.schedule.records.now l.schedule.count l.origins l.at l.i

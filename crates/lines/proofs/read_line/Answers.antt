@@ -1,43 +1,52 @@
-use Rattle.std.proofs.Common.{◌+◌, ◌≤◌, length}
+use Rattle.std.proofs.Common.{◌+◌, ◌≤◌, length, refl}
+use Rattle.std.proofs.lemmas.Result.{err_from_is_err_and}
 use Rattle.tables.specs.Records.{lines_held}
 use Rattle.lines.proofs.read_line.Goals as goal
-use Rattle.lines.proofs.ReadLaws.{line_laws, past_within, held_few, line_judged_lem}
+use Rattle.lines.proofs.ReadLaws.{line_laws, past_within, level_unsigned, held_few, not_read, level_outside, line_fits, line_judged_lem}
 
--- src/lib.rt:125:38
+pub returns-then-not-is_word_of : goal.returns-then-not-is_word_of
+returns-then-not-is_word_of c = search line_laws
+
+pub returns-in_err-numbers : goal.returns-in_err-numbers
+returns-in_err-numbers c =
+    let a = c.args in
+    let p = err_from_is_err_and c.from_residual.result c.from_residual.ensures.1 in
+    rw (p.1, p.2)
+    (not_read a.levels a.header a.found c.requires.found_value a.count a.text.now _ c.turns_level-turns.ensures c.requires.t _ c.numbers_of.ensures a.grammar
+    (lines_held a.records.now a.count) _ c.is_word_of.ensures (search line_laws) _ c.in_err-numbers.was)
+
 pub level_held-requires : goal.level_held-requires
-level_held-requires c = search line_laws
+level_held-requires c =
+    let a = c.args in
+    level_unsigned a.levels a.header a.found c.requires.found_value a.count a.text.now _ c.turns_level-turns.ensures c.requires.t _ c.numbers_of.ensures _ _ _ _
+    c.in_ok-numbers.was
 
--- src/lib.rt:126:17
-pub returns-in_default : goal.returns-in_default
-returns-in_default c = search line_laws
+pub returns-in_err-level : goal.returns-in_err-level
+returns-in_err-level c =
+    let a = c.args in
+    let p = err_from_is_err_and c.from_residual-in_err-level.result c.from_residual-in_err-level.ensures.1 in
+    rw (p.1, p.2)
+    (level_outside a.levels a.header a.found c.requires.found_value a.count a.text.now _ c.turns_level-turns.ensures c.requires.t _ c.numbers_of.ensures a.grammar
+    (lines_held a.records.now a.count) _ c.is_word_of.ensures (search line_laws) _ _ _ _ c.in_ok-numbers.was _ c.level_held.ensures _ c.in_err-level.was)
 
--- src/lib.rt:128:74
-pub overflow_add-end : goal.overflow_add-end
-overflow_add-end c =
-    let turned = c.turns_level-turns.ensures in
-    let numbers = c.numbers_of.ensures in
-    let inside : c.in-Numbers.end + 1 ≤ length c.args.text.now = search past_within in
+pub overflow_add-line : goal.overflow_add-line
+overflow_add-line c =
+    let a = c.args in
+    let inside : c.in_ok-numbers.numbers.end + 1 ≤ length c.args.text.now =
+    past_within a.levels a.header a.found c.requires.found_value a.count a.text.now _ c.turns_level-turns.ensures c.requires.t _ c.numbers_of.ensures _ _ _ _
+    c.in_ok-numbers.was in
     search line_laws
 
--- src/lib.rt:129:13
 pub judge-requires-clause-numbers_fit : goal.judge-requires-clause-numbers_fit
 judge-requires-clause-numbers_fit c =
-    let turned = c.turns_level-turns.ensures in
-    let numbers = c.numbers_of.ensures in
-    let level = c.level_held.ensures in
-    search line_laws
-
--- src/lib.rt:92:1
-pub returns-in-Held : goal.returns-in-Held
-returns-in-Held c =
     let a = c.args in
-    let is_word = c.is_word_of.ensures in
-    let other = c.if-not-is_word_of.false in
-    let turned = c.turns_level-turns.ensures in
-    let numbers = c.numbers_of.ensures in
-    let level = c.level_held.ensures in
+    line_fits a.levels a.header a.found c.requires.found_value a.count a.text.now _ c.turns_level-turns.ensures c.requires.t _ c.numbers_of.ensures _ _ _ _
+    c.in_ok-numbers.was _ c.level_held.ensures _ c.in_ok-level.was _ refl
+
+pub returns : goal.returns
+returns c =
+    let a = c.args in
     let short = held_few a.records.now a.count (search line_laws) in
-    let made = c.formed-line.ensures in
-    let judged = c.judge.ensures in
-    line_judged_lem a.levels a.header a.found (search line_laws) a.count a.text.now _ turned (search line_laws) _ numbers a.grammar
-    (lines_held a.records.now a.count) _ is_word (search line_laws) _ _ _ _ c.in-Numbers.is _ level _ c.in-Held.is short _ made c.judge.result judged
+    line_judged_lem a.levels a.header a.found c.requires.found_value a.count a.text.now _ c.turns_level-turns.ensures c.requires.t _ c.numbers_of.ensures a.grammar
+    (lines_held a.records.now a.count) _ c.is_word_of.ensures (search line_laws) _ _ _ _ c.in_ok-numbers.was _ c.level_held.ensures _ c.in_ok-level.was short _
+    refl c.judge.result c.judge.ensures

@@ -1,10 +1,6 @@
--- `listingtable::convert` meets its contract: the loop's invariant is `Converting`; the measure is what is left of the listing. Assumes nothing.
-use Prim.Native.Nat.{◌-◌}
+-- `listingtable::convert` meets its contract: the loop's invariant is `Converting`. Assumes nothing.
 use Rattle.listingtable.proofs.Converting.{Converting}
 use Rattle.listingtable.proofs.convert.Given as goal
 
 abbrev pub invariant-loop-i : goal.invariant-loop-i
-invariant-loop-i l = Converting l.header l.listing l.count l.scales l.schedule l.names l.at l.i
-
-abbrev pub decreases-loop-i : goal.decreases-loop-i
-decreases-loop-i l = l.count - l.i
+invariant-loop-i l = Converting l.listing.header l.listing.records.now l.listing.count l.scales l.schedule l.names l.at l.i

@@ -1,9 +1,9 @@
 -- Document 02, Job 3: the headroom decides whether a circuit is planned, and no line of its plan. Where it is planned with H, it is planned
 -- without, by the same lines.
+use Rattle.std.specs.Prelude.{None}
 use mathlib.Core.Path.{◌≡◌}
 use mathlib.Core.List.{List}
 use Rattle.model.specs.declared.Header.{Header}
-use Rattle.model.specs.declared.Headroom.TheVariants.{None}
 use Rattle.model.specs.declared.Line.{Line}
 use Rattle.model.specs.Services.{scheduled, plan}
 

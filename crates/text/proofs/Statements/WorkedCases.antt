@@ -1,5 +1,6 @@
 -- Texts of a few lines and what they read to, the limits of numbers on both sides, and where a text has two faults the one that is told. The first two
 -- are written byte by byte. The program `storedtexts` tries more such texts on the code, all byte by byte.
+use Rattle.std.specs.Prelude.{Some, None}
 use Prim.Native.Nat.{ℕ}
 use mathlib.Core.Path.{◌≡◌}
 use mathlib.Core.List.{List, [], ◌∷◌, ◌++◌, map}
@@ -10,7 +11,6 @@ use Rattle.fields.specs.Numbers.{decimal, amount_text}
 use Rattle.model.specs.declared.Grammar.{Grammar}
 use Rattle.model.specs.declared.Grammar.TheVariants.{Circuit, Schedule}
 use Rattle.model.specs.declared.Header.{Header}
-use Rattle.model.specs.declared.Headroom.TheVariants.{None, Given}
 use Rattle.model.specs.declared.Line as Lines
 use Rattle.model.specs.declared.Line.{Line}
 use Rattle.model.specs.declared.Word.{Word}
@@ -79,7 +79,7 @@ abbrev headed_with : Bytes → Reading File
 headed_with field = read_text circuit_context (fields_text (header_word Circuit ∷ decimal 60 ∷ decimal 20 ∷ decimal 2 ∷ field ∷ []))
 
 abbrev with_headroom : ℕ → Reading File
-with_headroom bits = read (record { header = record { factor = 60; waterline = 20; top = 2; headroom = Given bits }; lines = [] })
+with_headroom bits = read (record { header = record { factor = 60; waterline = 20; top = 2; headroom = Some bits }; lines = [] })
 
 -- 256 lines that are kept
 abbrev kept_lines_lem : Bytes
@@ -124,7 +124,7 @@ pub record Statement : Type 0 where
   pub headroom_others_ranged : read_text circuit_context (fields_text (header_word Circuit ∷ decimal 61 ∷ decimal 20 ∷ decimal 2 ∷ decimal 5 ∷ [])) ≡ refused 2 1
   pub headroom_schedule : read_text schedule_context (fields_text (header_word Schedule ∷ decimal 60 ∷ decimal 20 ∷ decimal 2 ∷ decimal 5 ∷ [])) ≡ with_headroom 5
   pub header_five_numbers : read_text circuit_context (fields_text (header_word Circuit ∷ decimal 60 ∷ decimal 20 ∷ decimal 2 ∷ decimal 5 ∷ decimal 5 ∷ [])) ≡ refused 1 1
-  pub headroom_written : file_text Circuit (record { header = record { factor = 60; waterline = 20; top = 2; headroom = Given 5 }; lines = [] })
+  pub headroom_written : file_text Circuit (record { header = record { factor = 60; waterline = 20; top = 2; headroom = Some 5 }; lines = [] })
       ≡ fields_text (header_word Circuit ∷ decimal 60 ∷ decimal 20 ∷ decimal 2 ∷ decimal 5 ∷ [])
   pub none_written : file_text Circuit (record { header = numbers; lines = [] }) ≡ header Circuit
   pub header_then_line : read_text circuit_context (fields_text (header_word Circuit ∷ decimal 61 ∷ decimal 20 ∷ decimal 2 ∷ []) ++ fields_text []) ≡ refused 2 1

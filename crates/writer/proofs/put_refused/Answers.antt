@@ -1,15 +1,8 @@
+use Rattle.std.proofs.Common.{rules}
+use Rattle.spelling.proofs.Taking.{filled_put}
 use Rattle.writer.proofs.put_refused.Goals as goal
-use Rattle.spelling.proofs.Puts.{puts}
-use Rattle.spelling.proofs.Fields.{line_texts}
 
--- src/lib.rt:94:9
-pub put_two-next-requires : goal.put_two-next-requires
-put_two-next-requires c = search (puts, line_texts)
-
--- src/lib.rt:95:5
-pub put_byte-requires : goal.put_byte-requires
-put_byte-requires c = search (puts, line_texts)
-
--- src/lib.rt:89:1
 pub returns : goal.returns
-returns c = search (puts, line_texts)
+returns c =
+    let p = filled_put _ _ _ c.put_said_line.ensures in
+    search (rules, p)

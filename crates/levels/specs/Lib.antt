@@ -1,0 +1,2 @@
+-- What the search for a level comes to at each.
+pub mod Tried
