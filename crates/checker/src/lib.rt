@@ -58,7 +58,7 @@ fn erased(schedule: &[u8], out: &mut [u8]) -> Result<u32, FileRefusal>
     let mut records = [tables::FREE; 1792];
     let table = reader::lend_erase(schedule, &mut records)?;
     let mut erasure = [tables::FREE; 1792];
-    let kept = erasing::erase_table(&table, &mut erasure);
+    let kept = erasing::erase_table(table.records, table.count, &mut erasure);
     replies::put_text(out, b"circuit", table.header, &erasure, kept)
 }
 

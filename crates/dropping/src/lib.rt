@@ -37,7 +37,7 @@ fn drop_answer(schedule: &ScheduleTable, value: u32, line: u32) -> Reply
         return replies::refused(0, LACKING);
     }
     let mut entries = [0u16; 1792];
-    liveness::fill_entries(schedule, &mut entries);
+    liveness::fill_entries(schedule.records, schedule.count, &mut entries);
     if (entries[value as usize] as u32) <= line {
         return replies::told(1);
     }

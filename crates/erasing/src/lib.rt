@@ -9,7 +9,7 @@ ghost use Rattle.model.specs.Services.{erase};
 ghost use Rattle.model.specs.Answers.{same_header, rules_answer, check};
 ghost use Rattle.text.specs.Tables.{file_of};
 ghost use Rattle.tables.specs.Files.{circuit_lines, circuit_held, schedule_lines, schedule_held};
-ghost use Rattle.tables.specs.Records.{line_of, lines_of, lines_held, free_records};
+ghost use Rattle.tables.specs.Records.{line_of, lines_of, lines_held, free_records, IsSchedule};
 ghost use Rattle.erasing.specs.Comparing.{after_compared, begin_with};
 ghost use Rattle.erasing.specs.Lines.{erased_to, erased_by};
 
@@ -25,32 +25,34 @@ enum Erased {
 }
 
 // Line i of a schedule; the origins are the kept lines that the lines before it are or were made from.
-fn erase_line(origins: &[u16; 1792], schedule: &ScheduleTable, i: usize) -> Erased
-    requires { i < schedule.now.count }
-    ensures { erased_to result ≡ erased_by origins.now (get_or (lines_of schedule.now.records.now) i Free) }
+fn erase_line(origins: &[u16; 1792], schedule: &[Record], count: usize, i: usize) -> Erased
+    requires schedule { IsSchedule schedule.now count }
+    requires inside { i < count }
+    ensures { erased_to result ≡ erased_by origins.now (get_or (lines_of schedule.now) i Free) }
 {
-    let record = schedule.records[i];
+    let record = schedule[i];
     let a = operands::first_of(record);
     let b = operands::second_of(record);
     let first = origins[a as usize];
     let second = origins[b as usize];
-    if tables::struck_at(schedule.records, i) {
+    if tables::struck_at(schedule, i) {
         return Erased::Struck(first);
     }
     Erased::Kept(operands::renamed(record, first, second))
 }
 
-// The lines that erasing keeps, renumbered, into records that are free, and how many they are.
+// The lines that erasing keeps, renumbered, into records that are free, and how many they are. No struct of the table: which header it has is not asked.
 #[tactic(auto, using(crate::proofs::Filling::filling_laws, crate::proofs::Filling::after_struck))]
-pub fn erase_table(schedule: &ScheduleTable, erasure: &mut [Record]) -> usize
-    requires { erasure.old ≡ free_records }
-    ensures result_after { lines_held erasure.new result ≡ erase (schedule_lines schedule.now) }
-    ensures few { result ≤ schedule.now.count }
+pub fn erase_table(schedule: &[Record], count: usize, erasure: &mut [Record]) -> usize
+    requires schedule { IsSchedule schedule.now count }
+    requires erasure_value { erasure.old ≡ free_records }
+    ensures result_after { lines_held erasure.new result ≡ erase (lines_held schedule.now count) }
+    ensures few { result ≤ count }
 {
     let mut origins = [0u16; 1792];
     let mut at: usize = 0;
-    for i in 0..schedule.count {
-        match erase_line(&origins, schedule, i) {
+    for i in 0..count {
+        match erase_line(&origins, schedule, count, i) {
             Erased::Struck(origin) => {
                 origins[i] = origin;
             }
@@ -109,7 +111,7 @@ pub fn compare_erasure(circuit: &CircuitTable, schedule: &ScheduleTable) -> Resu
     let mut origins = [0u16; 1792];
     let mut at: usize = 0;
     for i in 0..schedule.count {
-        match erase_line(&origins, schedule, i) {
+        match erase_line(&origins, schedule.records, schedule.count, i) {
             Erased::Struck(origin) => {
                 origins[i] = origin;
             }

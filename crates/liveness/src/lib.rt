@@ -5,11 +5,13 @@ ghost use Rattle.std.specs.Prelude.{◌≡◌, ◌+◌, ◌*◌, ◌≤◌, ◌<
 ghost use Rattle.operands.specs.Operands.{operands_in};
 ghost use Rattle.spelling.specs.Put.{Put};
 ghost use Rattle.tables.specs.Files.{schedule_lines};
+ghost use Rattle.tables.specs.Records.{lines_held, IsSchedule};
 ghost use Rattle.liveness.specs.Live.{one_if, two_bytes};
 ghost use Rattle.liveness.specs.Kept.{set_all, AllBelow, HasEntries, HasCounts, starts_live, IsLiveness, IsLargest, pairs_to};
 
 use operands::OperandsOf;
 use spelling::sinks::{Buffer, Sink};
+use tables::Record;
 use tables::files::ScheduleTable;
 
 // What is kept beside a schedule's table: for each value the last line that names it, and for each line how many ciphertexts are live after it.
@@ -19,7 +21,7 @@ pub struct Liveness {
     pub counts: [u16; 1792],
 }
 
-// ---- entries
+// ---- entries; here and for the counts no struct of the table, since which header it has is not asked
 // Line i is the last so far that names these values.
 fn name_values(named: OperandsOf, i: u16, entries: &mut [u16; 1792])
     requires all_below { AllBelow 1792 (operands_in named) }
@@ -39,12 +41,13 @@ fn name_values(named: OperandsOf, i: u16, entries: &mut [u16; 1792])
 }
 
 // The entry of each value: its own line, until a later line names it.
-pub fn fill_entries(schedule: &ScheduleTable, entries: &mut [u16; 1792])
-    requires { length entries.old ≡ 1792 }
-    ensures { HasEntries (schedule_lines schedule.now) entries.new }
+pub fn fill_entries(schedule: &[Record], count: usize, entries: &mut [u16; 1792])
+    requires schedule { IsSchedule schedule.now count }
+    requires entries_len { length entries.old ≡ 1792 }
+    ensures { HasEntries (lines_held schedule.now count) entries.new }
 {
-    for i in 0..schedule.count {
-        let line = tables::line_at(schedule.records, i);
+    for i in 0..count {
+        let line = tables::line_at(schedule, i);
         let named = operands::operands_of(line);
         entries[i] = i as u16;
         name_values(named, i as u16, entries);
@@ -54,27 +57,36 @@ pub fn fill_entries(schedule: &ScheduleTable, entries: &mut [u16; 1792])
 // ---- counts
 // Whether value v is live after its own line: a ciphertext that a later line names, by its entry.
 #[tactic(auto, using(crate::proofs::Counting::starts_laws))]
-fn starts_live(schedule: &ScheduleTable, v: usize, entry: u16) -> bool
-    ensures { result ≡ starts_live (schedule_lines schedule.now) v entry }
+fn starts_live(schedule: &[Record], count: usize, v: usize, entry: u16) -> bool
+    requires { IsSchedule schedule.now count }
+    ensures { result ≡ starts_live (lines_held schedule.now count) v entry }
 {
     if (entry as usize) <= v {
         return false;
     }
-    tables::is_ciphertext(tables::kind_at(schedule.records, schedule.count, v as u64))
+    tables::is_ciphertext(tables::kind_at(schedule, count, v as u64))
 }
 
 // How many are live with value v, which then ends with the line of its entry. It is a branch, since most values are named later: without one the walk over
 // the lines took 1.3 to 2 times as long.
 #[tactic(auto, using(crate::proofs::Counting::begin_laws))]
-fn begin(schedule: &ScheduleTable, v: usize, entry: u16, live: u16, ends: &mut [u16; 1792]) -> u16
+fn begin(
+    schedule: &[Record],
+    count: usize,
+    v: usize,
+    entry: u16,
+    live: u16,
+    ends: &mut [u16; 1792],
+) -> u16
+    requires schedule { IsSchedule schedule.now count }
     requires bound { entry < 1792 }
     requires live_bound { live < 1792 }
     requires ends_len { length ends.old ≡ 1792 }
     requires bound_2 { get_or ends.old entry 0 < 1792 }
-    ensures value { result ≡ live + one_if (starts_live (schedule_lines schedule.now) v entry) }
-    ensures ends { ends.new ≡ set ends.old entry (get_or ends.old entry 0 + one_if (starts_live (schedule_lines schedule.now) v entry)) }
+    ensures value { result ≡ live + one_if (starts_live (lines_held schedule.now count) v entry) }
+    ensures ends { ends.new ≡ set ends.old entry (get_or ends.old entry 0 + one_if (starts_live (lines_held schedule.now count) v entry)) }
 {
-    if starts_live(schedule, v, entry) {
+    if starts_live(schedule, count, v, entry) {
         ends[entry as usize] += 1;
         return live + 1;
     }
@@ -82,15 +94,21 @@ fn begin(schedule: &ScheduleTable, v: usize, entry: u16, live: u16, ends: &mut [
 }
 
 // The count after each line. A ciphertext that is named later is live from its own line on, and no longer after the line of its entry.
-pub fn fill_counts(schedule: &ScheduleTable, entries: &[u16; 1792], counts: &mut [u16; 1792])
-    requires has_entries { HasEntries (schedule_lines schedule.now) entries.now }
+pub fn fill_counts(
+    schedule: &[Record],
+    count: usize,
+    entries: &[u16; 1792],
+    counts: &mut [u16; 1792],
+)
+    requires schedule { IsSchedule schedule.now count }
+    requires has_entries { HasEntries (lines_held schedule.now count) entries.now }
     requires counts_len { length counts.old ≡ 1792 }
-    ensures { HasCounts (schedule_lines schedule.now) counts.new }
+    ensures { HasCounts (lines_held schedule.now count) counts.new }
 {
     let mut ends = [0u16; 1792];
     let mut live: u16 = 0;
-    for i in 0..schedule.count {
-        live = begin(schedule, i, entries[i], live, &mut ends);
+    for i in 0..count {
+        live = begin(schedule, count, i, entries[i], live, &mut ends);
         live -= ends[i];
         counts[i] = live;
     }
@@ -103,8 +121,13 @@ impl Liveness {
         requires counts_len { length self.old.counts ≡ 1792 }
         ensures { IsLiveness (schedule_lines schedule.now) self.new }
     {
-        fill_entries(schedule, &mut self.entries);
-        fill_counts(schedule, &self.entries, &mut self.counts);
+        fill_entries(schedule.records, schedule.count, &mut self.entries);
+        fill_counts(
+            schedule.records,
+            schedule.count,
+            &self.entries,
+            &mut self.counts,
+        );
     }
 }
 

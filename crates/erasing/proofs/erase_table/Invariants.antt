@@ -3,4 +3,4 @@ use Rattle.erasing.proofs.Filling.{Filling}
 use Rattle.erasing.proofs.erase_table.Given as goal
 
 abbrev pub invariant-loop-i : goal.invariant-loop-i
-invariant-loop-i l = Filling l.schedule.records.now l.schedule.count l.erasure l.origins l.at l.i
+invariant-loop-i l = Filling l.schedule l.count l.erasure l.origins l.at l.i
