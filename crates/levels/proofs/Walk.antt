@@ -3,7 +3,6 @@ use Prim.Native.Nat.{ℕ, ◌+◌, ◌≤◌, ◌<◌}
 use native.Mathlib.Numerals.{add-one}
 use native.Mathlib.Omega.{arith}
 use mathlib.Core.List.{List, [], ◌∷◌, ◌++◌}
-use borrow.Author.Rules.{rules}
 use mathlib.Core.Path.{◌≡◌, refl, sym, ap, ◌∙◌, subst}
 use lib.Dec.{T, leb→le}
 use lib.IntN.{ℤ}
@@ -111,5 +110,3 @@ module _ {t : CircuitTable} {level : ℕ} {h : Header} {reserves : List ℤ} {i 
         where
           stored : take (i + 1) (set reserves i (Readings.held z)) ≡ take i reserves ++ (z ∷ [])
           stored = rw (result_held z f, add-one i) (take-suc-set reserves i z (omega (arith, few, w.wide)))
-
-pub ruleset walking = (rules, walk_start, walk_known, line_below, level_fits, level_refused, walk_more)

@@ -70,6 +70,14 @@ operand_is before reserves levels numbers a k c e f s = rw (f, e, read_same (get
 
 pub ruleset operand_laws = (rules, operand_is)
 
+-- a line that is not done has too few levels
+pub only_too_few : (s : Step Best ℕ) (f : Fault) → line_choice s ≡ Err f → f ≡ TooFewLevels
+only_too_few (goes v) f q = absurd (let z : ◌≡◌ {A = ℕ} 0 1 = cc in omega arith)
+only_too_few (stops n) f q = cc
+
+pub too_few_levels : (r : Result Choice Fault) (s : Step Best ℕ) → r ≡ line_choice s → (f : Fault) → r ≡ Err f → f ≡ TooFewLevels
+too_few_levels r s is f k = only_too_few s f (sym is ∙ k)
+
 -- ---- the loop
 -- what is held of a value whose best is b
 pub record Entry (reserves : List ℤ) (levels : List ℕ) (a : ℕ) (b : Best) : Type 0 where
@@ -342,16 +350,10 @@ module _ {t : CircuitTable} {schedule : List Record} {reserves : List ℤ} {leve
           pub too_few : (f : Fault) → r ≡ Err f → planned_of h schedule (Err (record { fault = f; place = i + 2 })) ≡ plan (file_of (circuit_held t))
           too_few f k = go (step_on h x o o') refl (sym is ∙ k)
             where
-              six : ◌≡◌ {A = Result Choice Fault} (Err TooFewLevels) (Err f) → 6 ≡ number_of f
-              six q = ap number_of (injected q)
-                where
-                  injected : ◌≡◌ {A = Result Choice Fault} (Err TooFewLevels) (Err f) → TooFewLevels ≡ f
-                  injected d = cc
-
               go : (s : Step Best ℕ) → step_on h x o o' ≡ s → line_choice s ≡ Err f
                   → planned_of h schedule (Err (record { fault = f; place = i + 2 })) ≡ plan (file_of (circuit_held t))
               go (goes v) e q = absurd (let z : ◌≡◌ {A = ℕ} 0 1 = cc in omega arith)
-              go (stops n) e q = sym (ap plan_for (run_stops n e) ∙ ap (λ (m : ℕ). Services.unplanned m (i + 2)) (line_known.only_six n e ∙ six q))
+              go (stops n) e q = sym (ap plan_for (run_stops n e) ∙ ap (λ (m : ℕ). Services.unplanned m (i + 2)) (line_known.only_six n e ∙ ap number_of (sym (only_too_few (stops n) f q))))
 
           module _ (p : Choice) (ok : r ≡ Ok p) where
             -- the line's best, and the line by itself
@@ -527,6 +529,7 @@ pub ruleset plan_laws = (
   first_small,
   second_small,
   line_known,
+  too_few_levels,
   too_few,
   done_as,
   level_fits,

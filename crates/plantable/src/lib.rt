@@ -2,6 +2,7 @@
 #![tactic(auto)]
 
 ghost use Rattle.std.specs.Prelude.{◌≡◌, ◌≤◌, ◌<◌, length, IfOk, IfErr};
+ghost use Rattle.model.specs.declared.Fault.TheVariants.{TooFewLevels};
 ghost use Rattle.model.specs.Services.{plan};
 ghost use Rattle.text.specs.Tables.{file_of};
 ghost use Rattle.tables.specs.Files.{circuit_held};
@@ -47,7 +48,8 @@ pub fn plan_table(circuit: &CircuitTable, schedule: &mut [Record]) -> Result<usi
     requires { schedule.old ≡ free_records }
     ensures planned { planned_of circuit.now.header schedule.new result ≡ plan (file_of (circuit_held circuit.now)) }
     ensures few { IfOk result (λ count. count ≤ 1792) }
-    ensures placed { IfErr result (λ r. r.place ≤ 1794) }
+    ensures fault { IfErr result (λ r. r.fault ≡ TooFewLevels) }
+    ensures placed { IfErr result (λ r. 2 ≤ r.place × r.place ≤ 1794) }
 {
     let header = circuit.header;
     let mut reserves = [0i32; 256];

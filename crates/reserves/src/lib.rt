@@ -2,7 +2,8 @@
 // (docs/DECISIONS.md, 63).
 #![tactic(auto)]
 
-ghost use Rattle.std.specs.Prelude.{◌≡◌, ◌+◌, T, take};
+ghost use Rattle.std.specs.Prelude.{◌≡◌, ◌+◌, T, take, IfErr};
+ghost use Rattle.model.specs.declared.Fault.TheVariants.{TooFewLevels};
 ghost use Rattle.model.specs.Scales.{header_in_range};
 ghost use Rattle.tables.specs.Bests.{reserves_run};
 ghost use Rattle.tables.specs.Records.{lines_held};
@@ -17,7 +18,8 @@ use tables::Record;
 #[tactic(auto, using(crate::proofs::PairLaws::pairs))]
 fn unless_too_low(header: Header, reserve: i32) -> Result<i32, Fault>
     requires { T (header_in_range header) }
-    ensures { step_of result ≡ unless_too_low header reserve }
+    ensures reserve { step_of result ≡ unless_too_low header reserve }
+    ensures fault { IfErr result (λ f. f ≡ TooFewLevels) }
 {
     if reserve < scales::headroom(header) {
         return Err(Fault::TooFewLevels);
@@ -70,7 +72,8 @@ pub fn reserve_of(
     i: usize,
 ) -> Result<i32, Fault>
     requires { KnownTo header circuit.now reserves.now i }
-    ensures { reserves_run header (lines_held circuit.now (i + 1)) ≡ one_more i (take i reserves.now) (step_of result) }
+    ensures reserve { reserves_run header (lines_held circuit.now (i + 1)) ≡ one_more i (take i reserves.now) (step_of result) }
+    ensures fault { IfErr result (λ f. f ≡ TooFewLevels) }
 {
     match tables::line_at(circuit, i) {
         Line::In => unless_too_low(header, choices::at_waterline(header, header.top)),

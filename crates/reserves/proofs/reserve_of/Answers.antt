@@ -22,38 +22,38 @@ product_reserve-requires-clause-known_operand_2 c = search lines
 pub bounds-reserves-first-in-Out : goal.bounds-reserves-first-in-Out
 bounds-reserves-first-in-Out c = search lines
 
-pub returns-in-Const : goal.returns-in-Const
-returns-in-Const c = search lines
+pub returns-in-Const-clause-reserve : goal.returns-in-Const-clause-reserve
+returns-in-Const-clause-reserve c = search lines
 
-pub returns-in-Rot : goal.returns-in-Rot
-returns-in-Rot c = search lines
+pub returns-in-Rot-clause-reserve : goal.returns-in-Rot-clause-reserve
+returns-in-Rot-clause-reserve c = search lines
 
-pub returns-in-Enc : goal.returns-in-Enc
-returns-in-Enc c = search lines
+pub returns-in-Enc-clause-reserve : goal.returns-in-Enc-clause-reserve
+returns-in-Enc-clause-reserve c = search lines
 
-pub returns-in-Rs : goal.returns-in-Rs
-returns-in-Rs c = search lines
+pub returns-in-Rs-clause-reserve : goal.returns-in-Rs-clause-reserve
+returns-in-Rs-clause-reserve c = search lines
 
-pub returns-in-Ms : goal.returns-in-Ms
-returns-in-Ms c = search lines
+pub returns-in-Ms-clause-reserve : goal.returns-in-Ms-clause-reserve
+returns-in-Ms-clause-reserve c = search lines
 
-pub returns-in-Us : goal.returns-in-Us
-returns-in-Us c = search lines
+pub returns-in-Us-clause-reserve : goal.returns-in-Us-clause-reserve
+returns-in-Us-clause-reserve c = search lines
 
-pub returns-in-Free : goal.returns-in-Free
-returns-in-Free c = search lines
+pub returns-in-Free-clause-reserve : goal.returns-in-Free-clause-reserve
+returns-in-Free-clause-reserve c = search lines
 
-pub returns-in-In : goal.returns-in-In
-returns-in-In c = search lines
+pub returns-in-In-clause-reserve : goal.returns-in-In-clause-reserve
+returns-in-In-clause-reserve c = search lines
 
-pub returns-in-Neg : goal.returns-in-Neg
-returns-in-Neg c = search lines
+pub returns-in-Neg-clause-reserve : goal.returns-in-Neg-clause-reserve
+returns-in-Neg-clause-reserve c = search lines
 
-pub returns-in-Add : goal.returns-in-Add
-returns-in-Add c = search lines
+pub returns-in-Add-clause-reserve : goal.returns-in-Add-clause-reserve
+returns-in-Add-clause-reserve c = search lines
 
-pub returns-in-Mul : goal.returns-in-Mul
-returns-in-Mul c = search lines
+pub returns-in-Mul-clause-reserve : goal.returns-in-Mul-clause-reserve
+returns-in-Mul-clause-reserve c = search lines
 
-pub returns-in-Out : goal.returns-in-Out
-returns-in-Out c = search lines
+pub returns-in-Out-clause-reserve : goal.returns-in-Out-clause-reserve
+returns-in-Out-clause-reserve c = search lines
