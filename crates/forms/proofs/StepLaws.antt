@@ -30,8 +30,8 @@ use Rattle.rows.proofs.FieldLaws as F
 use Rattle.rows.proofs.FieldLaws.{Held}
 use Rattle.std.specs.Prelude as Std
 use Rattle.std.specs.Prelude.{Some, None, Result, Err}
-use Rattle.model.specs.declared.Fault.{Fault}
 use Rattle.model.specs.declared.Fault.TheVariants.{NotOfForm}
+use Rattle.model.specs.declared.Refusal.{Refusal}
 use Rattle.forms.specs.declared.FieldsAsked.{FieldsAsked}
 use Rattle.forms.specs.declared.Numbers.{Numbers}
 use Rattle.forms.specs.Along.{line_in, is_closed, numbers_in}
@@ -302,9 +302,12 @@ module _ {asked : FieldsAsked} {s : Bytes} {start : ℕ} {numbers : List ℤ} {o
   abbrev fs : List Asked
   fs = described asked
 
-  -- what the numbers of these fields come to
-  abbrev told : Result Numbers Fault
-  told = numbers_to fs (line_end s start) (numbers_in (map read_as fs) (drop start s))
+  -- what the numbers of these fields come to, in the line with this place
+  abbrev told : ℕ → Result Numbers Refusal
+  told place = numbers_to fs place (line_end s start) (numbers_in (map read_as fs) (drop start s))
+
+  abbrev unformed : ℕ → Result Numbers Refusal
+  unformed place = Err (record { fault = NotOfForm; place = place })
 
   module _ (l : i < asked.count) (b : Bool) (p : b ≡ signed_at asked i) (most : ℕ) (m : most ≡ largest_at asked i) (r : Std.Option FieldAt)
       (q : r ≡ field_after b most s at) where
@@ -320,8 +323,8 @@ module _ {asked : FieldsAsked} {s : Bytes} {start : ℕ} {numbers : List ℤ} {o
         numbers_in (map read_as fs) (drop start s) ≡ Option.map (λ ms. w.so_far ++ ms) (numbers_in (read_as (asked_at asked i) ∷ map read_as (drop (suc i) fs)) (drop at s))
     next_left = w.left ∙ ap (λ (gs : List Asked). Option.map (λ ms. w.so_far ++ ms) (numbers_in (map read_as gs) (drop at s))) next
 
-    pub field_missing : r ≡ None → Err NotOfForm ≡ told
-    field_missing e = (rw (next_left, missing (asked_at asked i) s at r read_so e (map read_as (drop (suc i) fs))))
+    pub field_missing : (place : ℕ) (x : Result Numbers Refusal) → x ≡ unformed place → r ≡ None → x ≡ told place
+    field_missing place x is e = is ∙ (rw (next_left, missing (asked_at asked i) s at r read_so e (map read_as (drop (suc i) fs))))
 
     pub field_more : (found : FieldAt) → r ≡ Some found → (o : Bool) → o ≡ outside_at asked i found.number → (z : ℤ) → z ≡ held_as found.number
         → Reading asked s start (set numbers i (machine z)) (outside || o) found.end (i + 1)
@@ -369,8 +372,8 @@ module _ {asked : FieldsAsked} {s : Bytes} {start : ℕ} {numbers : List ℤ} {o
     all_left : numbers_in (map read_as fs) (drop start s) ≡ Option.map (λ ms. w.so_far ++ ms) (numbers_in [] (drop at s))
     all_left = w.left ∙ ap (λ (gs : List Asked). Option.map (λ ms. w.so_far ++ ms) (numbers_in (map read_as gs) (drop at s))) none_left
 
-    pub not_closed : t ≡ false → Err NotOfForm ≡ told
-    not_closed h = (rw (all_left, no_line_feed (drop at s) (sym q ∙ h)))
+    pub not_closed : (place : ℕ) (x : Result Numbers Refusal) → x ≡ unformed place → t ≡ false → x ≡ told place
+    not_closed place x is h = is ∙ (rw (all_left, no_line_feed (drop at s) (sym q ∙ h)))
 
     module _ (h : t ≡ true) where
       closes : begins line_feed (drop at s) ≡ true
@@ -394,13 +397,13 @@ module _ {asked : FieldsAsked} {s : Bytes} {start : ℕ} {numbers : List ℤ} {o
       held_at k =
           small_held (get_or numbers k (pos 0)) (w.small k) ∙ sym (ap (λ (ns : List ℤ). get_or ns k (pos 0)) held_all ∙ cut_free i numbers w.free k)
 
-      pub all_told : (r : Result Numbers Fault)
-          → r ≡ unless_outside outside (record { first = machine (get_or numbers 0 (pos 0)); second = machine (get_or numbers 1 (pos 0)); third = machine (get_or numbers 2 (pos 0)); end = at })
-          → r ≡ told
-      all_told r e =
+      pub all_told : (place : ℕ) (r : Result Numbers Refusal)
+          → r ≡ unless_outside outside place (record { first = machine (get_or numbers 0 (pos 0)); second = machine (get_or numbers 1 (pos 0)); third = machine (get_or numbers 2 (pos 0)); end = at })
+          → r ≡ told place
+      all_told place r e =
           let ends : line_end s start ≡ at = omega (arith, w.line, line_feed_here (drop at s) closes) in
-          let as_held : unless_outside outside (record { first = machine (get_or numbers 0 (pos 0)); second = machine (get_or numbers 1 (pos 0)); third = machine (get_or numbers 2 (pos 0)); end = at })
-          ≡ unless_outside outside (numbers_from (all_held fs (w.so_far ++ [])) at) = λ i. unless_outside outside (record { first = held_at 0 i; second = held_at 1 i; third = held_at 2 i; end = at }) in
+          let as_held : unless_outside outside place (record { first = machine (get_or numbers 0 (pos 0)); second = machine (get_or numbers 1 (pos 0)); third = machine (get_or numbers 2 (pos 0)); end = at })
+          ≡ unless_outside outside place (numbers_from (all_held fs (w.so_far ++ [])) at) = λ i. unless_outside outside place (record { first = held_at 0 i; second = held_at 1 i; third = held_at 2 i; end = at }) in
           (e ∙ as_held ∙ sym (rw (all_read, found_all, ends)))
 
 pub ruleset loop_laws = (rules, not-true, not-false, reading_start, field_missing, field_more, not_closed, all_told)

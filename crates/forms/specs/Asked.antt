@@ -9,8 +9,8 @@ use Rattle.fields.specs.declared.FieldAt.{FieldAt}
 use Rattle.rows.specs.Fields.{Holds, operand, amount}
 use Rattle.forms.specs.declared.FieldsAsked.{FieldsAsked}
 use Rattle.forms.specs.declared.Numbers.{Numbers}
-use Rattle.model.specs.declared.Fault.{Fault}
 use Rattle.model.specs.declared.Fault.TheVariants.{NotOfForm, NumberOutOfRange}
+use Rattle.model.specs.declared.Refusal.{Refusal}
 
 -- ---- field i, counted from 0, of which the first so many are value numbers
 unfoldable pub signed_at : FieldsAsked → ℕ → Bool
@@ -78,10 +78,11 @@ all_held (f ∷ fs) (n ∷ ns) = held_as (size_in f n) ∷ all_held fs ns
 abbrev pub numbers_from : List ℤ → ℕ → Numbers
 numbers_from ns end = record { first = get_or ns 0 (pos 0); second = get_or ns 1 (pos 0); third = get_or ns 2 (pos 0); end = end }
 
-abbrev pub unless_outside : Bool → Numbers → Result Numbers Fault
-unless_outside outside ns = cond outside (Err NumberOutOfRange) (Ok ns)
+-- of a line with this place
+abbrev pub unless_outside : Bool → ℕ → Numbers → Result Numbers Refusal
+unless_outside outside place ns = cond outside (Err (record { fault = NumberOutOfRange; place = place })) (Ok ns)
 
--- what is read of a line whose line feed stands at `end`
-abbrev pub numbers_to : List Asked → ℕ → Option (List ℤ) → Result Numbers Fault
-numbers_to fs end none = Err NotOfForm
-numbers_to fs end (some ns) = unless_outside (any_outside fs ns) (numbers_from (all_held fs ns) end)
+-- what is read of a line with that place whose line feed stands at `end`
+abbrev pub numbers_to : List Asked → ℕ → ℕ → Option (List ℤ) → Result Numbers Refusal
+numbers_to fs place end none = Err (record { fault = NotOfForm; place = place })
+numbers_to fs place end (some ns) = unless_outside (any_outside fs ns) place (numbers_from (all_held fs ns) end)

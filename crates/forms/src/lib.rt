@@ -8,7 +8,7 @@ ghost use Rattle.forms.specs.Along.{line_in, field_in, numbers_in, ends_field, i
 ghost use Rattle.forms.specs.Asked.{signed_at, largest_at, outside_at, held_as, field_after, described, read_as, numbers_to, unless_outside};
 
 use fields::FieldAt;
-use model::Fault;
+use model::{Fault, Refusal};
 
 // What is asked of the fields after a word: how many there are; how many of them, the first ones, are value numbers; and from which to which number each
 // other one is, the third up to a largest of its own.
@@ -102,12 +102,26 @@ pub fn field_after(text: &[u8], at: usize, signed: bool, largest: u32) -> Option
 }
 
 // ---- the fields of a line
+// The line with this place, refused.
+fn refused(fault: Fault, place: u32) -> Result<Numbers, Refusal>
+    ensures { result ≡ Err (record { fault = fault; place = place }) }
+{
+    Err(Refusal { fault, place })
+}
+
 // The numbers of a line that is of the form, unless one is outside its range.
-fn ranged(outside: bool, first: i64, second: i64, third: i64, end: usize) -> Result<Numbers, Fault>
-    ensures { result ≡ unless_outside outside (record { first = first; second = second; third = third; end = end }) }
+fn ranged(
+    place: u32,
+    outside: bool,
+    first: i64,
+    second: i64,
+    third: i64,
+    end: usize,
+) -> Result<Numbers, Refusal>
+    ensures { result ≡ unless_outside outside place (record { first = first; second = second; third = third; end = end }) }
 {
     if outside {
-        return Err(Fault::NumberOutOfRange);
+        return refused(Fault::NumberOutOfRange, place);
     }
     Ok(Numbers {
         first,
@@ -117,10 +131,15 @@ fn ranged(outside: bool, first: i64, second: i64, third: i64, end: usize) -> Res
     })
 }
 
-// The numbers of the fields that are asked for after a word that ends at `start`, with a line feed after the last.
-pub fn numbers_at(text: &[u8], start: usize, asked: &FieldsAsked) -> Result<Numbers, Fault>
+// The numbers of the fields that are asked for after a word that ends at `start`, with a line feed after the last, in the line with this place.
+pub fn numbers_at(
+    place: u32,
+    text: &[u8],
+    start: usize,
+    asked: &FieldsAsked,
+) -> Result<Numbers, Refusal>
     requires { asked.now.count ≤ 3 }
-    ensures { result ≡ numbers_to (described asked.now) (start + length (line_in (drop start text.now))) (numbers_in (map read_as (described asked.now)) (drop start text.now)) }
+    ensures { result ≡ numbers_to (described asked.now) place (start + length (line_in (drop start text.now))) (numbers_in (map read_as (described asked.now)) (drop start text.now)) }
 {
     let mut numbers = [0i64; 3];
     let mut outside = false;
@@ -129,7 +148,7 @@ pub fn numbers_at(text: &[u8], start: usize, asked: &FieldsAsked) -> Result<Numb
         let signed = asked.is_signed(i);
         let most = asked.largest_at(i);
         let Some(field) = field_after(text, at, signed, most) else {
-            return Err(Fault::NotOfForm);
+            return refused(Fault::NotOfForm, place);
         };
         // No return before the line's end: what is not of the form is refused as that, before any range.
         outside |= asked.is_outside(i, field.number);
@@ -137,7 +156,7 @@ pub fn numbers_at(text: &[u8], start: usize, asked: &FieldsAsked) -> Result<Numb
         at = field.end;
     }
     if !fields::is_at(text, at, b'\n') {
-        return Err(Fault::NotOfForm);
+        return refused(Fault::NotOfForm, place);
     }
-    ranged(outside, numbers[0], numbers[1], numbers[2], at)
+    ranged(place, outside, numbers[0], numbers[1], numbers[2], at)
 }

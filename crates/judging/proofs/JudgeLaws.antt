@@ -180,11 +180,11 @@ module _ (g : Grammar) (w : Word) (a b c : ℤ) (sa : SFits w64 a) (sb : SFits w
         go true true e = absurd (let z : ◌≡◌ {A = ℕ} 0 1 = cc in omega arith)
 
     pub fits : (n end : ℕ) (r : StoredLine) → f ≡ Ok tt → line_stored r ≡ (line_of w (a ∷ b ∷ c ∷ []), end)
-        → line_read (place_of n) (Ok r) ≡ line_to (place_of n) end (judged_as g lines (line_of w (a ∷ b ∷ c ∷ [])))
+        → line_read (Ok r) ≡ line_to (place_of n) end (judged_as g lines (line_of w (a ∷ b ∷ c ∷ [])))
     unfolding judged_as
     fits n end r e is = go usable kinds (found ∙ e)
       where
-        go : (u k : Bool) → fitness u k ≡ Ok tt → line_read (place_of n) (Ok r) ≡ line_to (place_of n) end (judged ((4, u) ∷ (5, k) ∷ []) (line_of w (a ∷ b ∷ c ∷ [])))
+        go : (u k : Bool) → fitness u k ≡ Ok tt → line_read (Ok r) ≡ line_to (place_of n) end (judged ((4, u) ∷ (5, k) ∷ []) (line_of w (a ∷ b ∷ c ∷ [])))
         go false k e = absurd (let z : ◌≡◌ {A = ℕ} 0 1 = cc in omega arith)
         go true false e = absurd (let z : ◌≡◌ {A = ℕ} 0 1 = cc in omega arith)
         go true true e = ap (λ (x : Line × ℕ). Rows.read x) is

@@ -11,6 +11,7 @@ use Rattle.model.specs.declared.Kind.{Kind}
 use Rattle.model.specs.declared.Word.{Word}
 use Rattle.model.specs.declared.Fault.{Fault}
 use Rattle.model.specs.declared.Fault.TheVariants.{NoUsableLine, WrongKind}
+use Rattle.model.specs.declared.Refusal.{Refusal}
 use Rattle.model.specs.Refusals.{number_of}
 use Rattle.model.specs.declared.Word.TheVariants.{Const, Rot}
 use Rattle.model.specs.Words.{no_operand, a_ciphertext, a_constant, a_pair}
@@ -67,9 +68,9 @@ pub record NumbersFit (w : Word) (first second third : ℤ) : Type 0 where
 abbrev pub line_stored : StoredLine → Line × ℕ
 line_stored s = (Records.line_of s.held, s.end)
 
-abbrev pub line_read : ℕ → Result StoredLine Fault → Reading (Line × ℕ)
-line_read place (Ok s) = read (line_stored s)
-line_read place (Err f) = refused (number_of f) place
+abbrev pub line_read : Result StoredLine Refusal → Reading (Line × ℕ)
+line_read (Ok s) = read (line_stored s)
+line_read (Err r) = refused (number_of r.fault) r.place
 
 abbrev pub line_to : ℕ → ℕ → Judgement Line → Reading (Line × ℕ)
 line_to place end j = at place j (λ x. read (x, end))

@@ -30,34 +30,36 @@ fn is_pair(grammar: Grammar, first: Kind, second: Kind) -> bool
     is_plaintext(grammar, first) && tables::is_ciphertext(second)
 }
 
+// That an operand cannot be used comes before that one is of the wrong kind.
+fn fitness(usable: bool, fit: bool) -> Result<(), Fault>
+    ensures { result ≡ fitness usable fit }
+{
+    if !usable {
+        return Err(Fault::NoUsableLine);
+    }
+    if !fit {
+        return Err(Fault::WrongKind);
+    }
+    Ok(())
+}
+
 pub fn ciphertext(kind: Kind) -> Result<(), Fault>
     ensures { result ≡ fitness (is_usable kind) (is_ciphertext kind) }
 {
-    match kind {
-        Kind::Ciphertext => Ok(()),
-        Kind::Constant | Kind::Encoded => Err(Fault::WrongKind),
-        Kind::Nothing => Err(Fault::NoUsableLine),
-    }
+    fitness(is_usable(kind), tables::is_ciphertext(kind))
 }
 
 pub fn constant(kind: Kind) -> Result<(), Fault>
     ensures { result ≡ fitness (is_usable kind) (is_constant kind) }
 {
-    match kind {
-        Kind::Constant => Ok(()),
-        Kind::Ciphertext | Kind::Encoded => Err(Fault::WrongKind),
-        Kind::Nothing => Err(Fault::NoUsableLine),
-    }
+    fitness(is_usable(kind), kind == Kind::Constant)
 }
 
 pub fn pair(grammar: Grammar, first: Kind, second: Kind) -> Result<(), Fault>
     ensures { result ≡ fitness (is_usable first && is_usable second) (is_pair grammar first second) }
 {
-    if !is_usable(first) || !is_usable(second) {
-        return Err(Fault::NoUsableLine);
-    }
-    if !is_pair(grammar, first, second) {
-        return Err(Fault::WrongKind);
-    }
-    Ok(())
+    fitness(
+        is_usable(first) && is_usable(second),
+        is_pair(grammar, first, second),
+    )
 }

@@ -13,7 +13,7 @@ ghost use Rattle.tables.specs.Records.{second_held, lines_held};
 ghost use Rattle.words.specs.Words.{row_of};
 ghost use Rattle.judging.specs.Judging.{line_read, line_stored, line_to, judged_as, fitness_by, SecondFits, NumbersFit};
 
-use model::{Fault, Grammar, Line, Word};
+use model::{Fault, Grammar, Line, Refusal, Word};
 use tables::Record;
 use words::OperandsAsked;
 
@@ -108,13 +108,18 @@ pub fn judge(
     records: &[Record],
     count: usize,
     line: FormedLine,
-) -> Result<StoredLine, Fault>
+) -> Result<StoredLine, Refusal>
     requires count_in_bounds { count ≤ length records.now }
     requires count_bound { count ≤ 1792 }
     requires asks_value { line.asks ≡ (row_of line.word).asks }
     requires numbers_fit { NumbersFit line.word line.first line.second line.third }
-    ensures { line_read (place_of count) result ≡ line_to (place_of count) line.end (judged_as grammar (lines_held records.now count) (line_of line.word (line.first ∷ line.second ∷ line.third ∷ []))) }
+    ensures { line_read result ≡ line_to (place_of count) line.end (judged_as grammar (lines_held records.now count) (line_of line.word (line.first ∷ line.second ∷ line.third ∷ []))) }
 {
-    operands_fit(grammar, line.asks, records, count, line.first, line.second)?;
-    Ok(stored(line))
+    match operands_fit(grammar, line.asks, records, count, line.first, line.second) {
+        Ok(()) => Ok(stored(line)),
+        Err(fault) => Err(Refusal {
+            fault,
+            place: (count as u32) + 2,
+        }),
+    }
 }

@@ -33,8 +33,8 @@ use Rattle.words.specs.Words.{held_word, row_in}
 use Rattle.judging.specs.Judging.{NumbersFit}
 use Rattle.judging.proofs.JudgeLaws.{line_of_three}
 use Rattle.std.specs.Prelude.{Result, Ok, Err}
-use Rattle.model.specs.declared.Fault.{Fault}
 use Rattle.model.specs.declared.Fault.TheVariants.{NumberOutOfRange}
+use Rattle.model.specs.declared.Refusal.{Refusal}
 use Rattle.lines.specs.Lines.{held_as, tested_as, turns_level, asked_by, level_held}
 use Rattle.lines.proofs.HeldLaws.{asked_of, row_asked, every_listed, all_in_lem, all_held_lem, numbers_fit, held_small}
 
@@ -65,9 +65,11 @@ pub record Asking (levels : Levels) (h : Header) (v : ListedWord) : Type 0 where
   pub names : (ms : List ℤ) → Fields Held fields ms → operands (held_line_of levels h v ms) ≡ operands_among fields ms
   pub outside : (ns : List ℤ) → Fields Held fields ns → any_outside (map (asked_of h.top) fields) ns ≡ true → range_of levels h v ns ≡ false
   pub too_low : (ns : List ℤ) → Fields Held fields ns → any_outside (map (asked_of h.top) fields) ns ≡ false
-      → level_held (turns_level levels (row_in v).fields) h.top (held_at h fields ns 1) (held_at h fields ns 2) ≡ Err NumberOutOfRange → range_of levels h v ns ≡ false
+      → (place : ℕ) (r : Refusal) → level_held place (turns_level levels (row_in v).fields) h.top (held_at h fields ns 1) (held_at h fields ns 2) ≡ Err r
+      → range_of levels h v ns ≡ false
   pub level_held_lem : (ns : List ℤ) → Fields Held fields ns → any_outside (map (asked_of h.top) fields) ns ≡ false
-      → (z : ℤ) → level_held (turns_level levels (row_in v).fields) h.top (held_at h fields ns 1) (held_at h fields ns 2) ≡ Ok z → LevelFits levels h v fields ns z
+      → (place : ℕ) (z : ℤ) → level_held place (turns_level levels (row_in v).fields) h.top (held_at h fields ns 1) (held_at h fields ns 2) ≡ Ok z
+      → LevelFits levels h v fields ns z
   pub smalls : (ns : List ℤ) → Fields Held fields ns → any_outside (map (asked_of h.top) fields) ns ≡ false → (j : ℕ) → Small (held_at h fields ns j)
   pub unsigned : turns_level levels (row_in v).fields ≡ true → (ns : List ℤ) → Fields Held fields ns → any_outside (map (asked_of h.top) fields) ns ≡ false
       → T (non_neg (held_at h fields ns 2))
@@ -121,10 +123,10 @@ names_of : (v : ListedWord) (ms : List ℤ) → Fields Held (word_fields v) ms �
 names_of (word w) ms hs = ap (λ (s : Said Word). operands_among (entry s.word).fields s.numbers) (said_line w hs)
 names_of ds ms (field (number a) no_field) = refl
 
-held_is : {y z : ℤ} → ◌≡◌ {A = Result ℤ Fault} (Ok y) (Ok z) → y ≡ z
+held_is : {y z : ℤ} → ◌≡◌ {A = Result ℤ Refusal} (Ok y) (Ok z) → y ≡ z
 held_is e = cc
 
-held_outside : {y : ℤ} {P : Type 0} → ◌≡◌ {A = Result ℤ Fault} (Ok y) (Err NumberOutOfRange) → P
+held_outside : {y : ℤ} {r : Refusal} {P : Type 0} → ◌≡◌ {A = Result ℤ Refusal} (Ok y) (Err r) → P
 held_outside e = absurd (let z : ◌≡◌ {A = ℕ} 0 1 = cc in omega arith)
 
 alike_itself : (v : ListedWord) → T (alike (word_fields v) (word_fields v))
@@ -136,9 +138,9 @@ unfolding alike
 read_itself top v = every_listed (λ u. alike (word_fields u) (map read_as (map (asked_of top) (word_fields u)))) tt v
 
 module _ (levels : Levels) (h : Header) (few : h.top ≤ 60) (v : ListedWord) (stays : turns_level levels (row_in v).fields ≡ false) where
-  same_level : (y z : ℤ) → level_held (turns_level levels (row_in v).fields) h.top y z ≡ Ok z
+  same_level : (place : ℕ) (y z : ℤ) → level_held place (turns_level levels (row_in v).fields) h.top y z ≡ Ok z
   unfolding level_held
-  same_level y z = rw stays
+  same_level place y z = rw stays
 
   asking_stays : Asking levels h v
   asking_stays =
@@ -149,8 +151,8 @@ module _ (levels : Levels) (h : Header) (few : h.top ≤ 60) (v : ListedWord) (s
         read_so = read_itself h.top v;
         names = λ ms hs. ap operands (held_stays h levels v ms stays hs) ∙ names_of v ms hs;
         outside = λ ns hs e. range_stays h levels v ns stays hs ∙ all_in_lem h.top hs ∙ ap not e;
-        too_low = λ ns hs e q. held_outside (sym (same_level (held_at h (word_fields v) ns 1) (held_at h (word_fields v) ns 2)) ∙ q);
-        level_held_lem = λ ns hs e z q. fits ns hs e z (held_is (sym (same_level (held_at h (word_fields v) ns 1) (held_at h (word_fields v) ns 2)) ∙ q));
+        too_low = λ ns hs e place r q. held_outside (sym (same_level place (held_at h (word_fields v) ns 1) (held_at h (word_fields v) ns 2)) ∙ q);
+        level_held_lem = λ ns hs e place z q. fits ns hs e z (held_is (sym (same_level place (held_at h (word_fields v) ns 1) (held_at h (word_fields v) ns 2)) ∙ q));
         smalls = λ ns hs e. held_small h.top few v hs e;
         unsigned = λ e ns hs q. absurd (let z : ◌≡◌ {A = Bool} true false = sym e ∙ stays in let y : ◌≡◌ {A = ℕ} 0 1 = cc in omega arith);
       }
@@ -237,10 +239,13 @@ module _ (h : Header) (few : h.top ≤ 60) (a s e : ℕ) where
     abbrev low : Bool
     low = ltb s 1 || ltb (h.top - e) 1
 
-    turns_so : level_held (turns_level Rising 3) h.top (held_at h (turned_fields h.top) ns 1) (held_at h (turned_fields h.top) ns 2)
-        ≡ cond low (Err NumberOutOfRange) (Ok (pos (h.top - e)))
+    abbrev level_from : ℕ → Bool → Result ℤ Refusal
+    level_from place b = cond b (Err (record { fault = NumberOutOfRange; place = place })) (Ok (pos (h.top - e)))
+
+    turns_so : (place : ℕ) → level_held place (turns_level Rising 3) h.top (held_at h (turned_fields h.top) ns 1) (held_at h (turned_fields h.top) ns 2)
+        ≡ level_from place low
     unfolding level_held turns_level
-    turns_so = rw (scale_at, level_at, sub_is h.top e high_level)
+    turns_so place = rw (scale_at, level_at, sub_is h.top e high_level)
 
     not_low : T ranges → T (not low)
     not_low t =
@@ -248,10 +253,10 @@ module _ (h : Header) (few : h.top ≤ 60) (a s e : ℕ) where
         let some_left = leb→le 1 (h.top - e) (and_first (leb 1 (h.top - e)) (leb (h.top - e) h.top) (and_second (within 1 3600 s) (within 1 h.top (h.top - e)) t)) in
         rw (le-ltb s 1 scale, le-ltb (h.top - e) 1 some_left) tt
 
-    turned_low : cond low (Err NumberOutOfRange) (Ok (pos (h.top - e))) ≡ Err NumberOutOfRange → ranges ≡ false
-    turned_low v = go low refl v
+    turned_low : (place : ℕ) (r : Refusal) → level_from place low ≡ Err r → ranges ≡ false
+    turned_low place r v = go low refl v
       where
-        go : (b : Bool) → low ≡ b → cond b (Err NumberOutOfRange) (Ok (pos (h.top - e))) ≡ Err NumberOutOfRange → ranges ≡ false
+        go : (b : Bool) → low ≡ b → level_from place b ≡ Err r → ranges ≡ false
         go true q v = false_by ranges (not low) not_low (ap not q)
         go false q v = held_outside v
 
@@ -260,8 +265,8 @@ module _ (h : Header) (few : h.top ≤ 60) (a s e : ℕ) where
     neither false true q = absurd (let z : ◌≡◌ {A = ℕ} 0 1 = cc in omega arith)
     neither false false q = tt
 
-    turned_fits : (z : ℤ) → cond low (Err NumberOutOfRange) (Ok (pos (h.top - e))) ≡ Ok z → LevelFits Rising h (word Enc) (turned_fields h.top) ns z
-    turned_fits z v = go low refl v
+    turned_fits : (place : ℕ) (z : ℤ) → level_from place low ≡ Ok z → LevelFits Rising h (word Enc) (turned_fields h.top) ns z
+    turned_fits place z v = go low refl v
       where
         fits : low ≡ false → LevelFits Rising h (word Enc) (turned_fields h.top) ns (pos (h.top - e))
         fits q =
@@ -294,7 +299,7 @@ module _ (h : Header) (few : h.top ≤ 60) (a s e : ℕ) where
               small = omega arith;
             }
 
-        go : (b : Bool) → low ≡ b → cond b (Err NumberOutOfRange) (Ok (pos (h.top - e))) ≡ Ok z → LevelFits Rising h (word Enc) (turned_fields h.top) ns z
+        go : (b : Bool) → low ≡ b → level_from place b ≡ Ok z → LevelFits Rising h (word Enc) (turned_fields h.top) ns z
         go true q v = absurd (let z : ◌≡◌ {A = ℕ} 0 1 = cc in omega arith)
         go false q v = subst (LevelFits Rising h (word Enc) (turned_fields h.top) ns) (held_is v) (fits q)
 
@@ -322,14 +327,14 @@ asking_turned h few =
     outside ns (field (number a) (field (number s) (field (number e) no_field))) q = turned_outside h few a s e q
 
     too_low : (ns : List ℤ) → Fields Held (turned_fields h.top) ns → any_outside (map (asked_of h.top) (turned_fields h.top)) ns ≡ false
-        → level_held (turns_level Rising 3) h.top (held_at h (turned_fields h.top) ns 1) (held_at h (turned_fields h.top) ns 2) ≡ Err NumberOutOfRange
+        → (place : ℕ) (r : Refusal) → level_held place (turns_level Rising 3) h.top (held_at h (turned_fields h.top) ns 1) (held_at h (turned_fields h.top) ns 2) ≡ Err r
         → range_of Rising h (word Enc) ns ≡ false
-    too_low ns (field (number a) (field (number s) (field (number e) no_field))) q v = turned_low h few a s e q (sym (turns_so h few a s e q) ∙ v)
+    too_low ns (field (number a) (field (number s) (field (number e) no_field))) q place r v = turned_low h few a s e q place r (sym (turns_so h few a s e q place) ∙ v)
 
     level_held_lem : (ns : List ℤ) → Fields Held (turned_fields h.top) ns → any_outside (map (asked_of h.top) (turned_fields h.top)) ns ≡ false
-        → (z : ℤ) → level_held (turns_level Rising 3) h.top (held_at h (turned_fields h.top) ns 1) (held_at h (turned_fields h.top) ns 2) ≡ Ok z
+        → (place : ℕ) (z : ℤ) → level_held place (turns_level Rising 3) h.top (held_at h (turned_fields h.top) ns 1) (held_at h (turned_fields h.top) ns 2) ≡ Ok z
         → LevelFits Rising h (word Enc) (turned_fields h.top) ns z
-    level_held_lem ns (field (number a) (field (number s) (field (number e) no_field))) q z v = turned_fits h few a s e q z (sym (turns_so h few a s e q) ∙ v)
+    level_held_lem ns (field (number a) (field (number s) (field (number e) no_field))) q place z v = turned_fits h few a s e q place z (sym (turns_so h few a s e q place) ∙ v)
 
     smalls : (ns : List ℤ) → Fields Held (turned_fields h.top) ns → any_outside (map (asked_of h.top) (turned_fields h.top)) ns ≡ false
         → (j : ℕ) → Small (held_at h (turned_fields h.top) ns j)

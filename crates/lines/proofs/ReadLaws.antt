@@ -28,8 +28,8 @@ use Rattle.model.proofs.Tests.{header_facts}
 use Rattle.listings.specs.declared.Levels.{Levels}
 use Rattle.listings.specs.Listings.{Listed, ListedWord, word_fields, listed_of}
 use Rattle.std.specs.Prelude.{Result, Ok, Err}
-use Rattle.model.specs.declared.Fault.{Fault}
 use Rattle.model.specs.declared.Fault.TheVariants.{NotOfForm, NumberOutOfRange}
+use Rattle.model.specs.declared.Refusal.{Refusal}
 use Rattle.model.specs.Refusals.{number_of}
 use Rattle.forms.specs.declared.Numbers.{Numbers}
 use Rattle.forms.specs.Along.{line_in, numbers_in}
@@ -42,7 +42,7 @@ use Rattle.words.specs.Words.{row_of, held_word, row_in, word_found, listed_word
 use Rattle.judging.specs.declared.StoredLine.{StoredLine}
 use Rattle.judging.specs.declared.FormedLine.{FormedLine}
 use Rattle.judging.specs.Judging.{NumbersFit, line_read, line_to, judged_as}
-use Rattle.lines.proofs.LevelLaws.{level_fault}
+use Rattle.lines.proofs.LevelLaws.{level_refused}
 use Rattle.lines.specs.Lines.{held_as, tested_as, listed_tests, turns_level, asked_by, level_held, word_judged}
 use Rattle.lines.proofs.HeldLaws.{asked_of, every_listed, judged_same}
 use Rattle.lines.proofs.AskedLaws.{held_line_of, range_of, held_at, LevelFits, Asking, asking}
@@ -52,23 +52,23 @@ use Rattle.lines.proofs.LineLaws.{tested_word, operand_tests_lem, judged_held}
 abbrev as_numbers : ℤ → ℤ → ℤ → ℕ → Numbers
 as_numbers x y z e = record { first = x; second = y; third = z; end = e }
 
-pub data Answered (gs : List Asked) (end : ℕ) (o : Option (List ℤ)) (r : Result Numbers Fault) : Type 0 where
-  no_numbers : o ≡ none → r ≡ Err NotOfForm → Answered gs end o r
-  one_outside : (ns : List ℤ) → o ≡ some ns → any_outside gs ns ≡ true → r ≡ Err NumberOutOfRange → Answered gs end o r
-  all_inside : (ns : List ℤ) → o ≡ some ns → any_outside gs ns ≡ false → r ≡ Ok (numbers_from (all_held gs ns) end) → Answered gs end o r
+pub data Answered (gs : List Asked) (place end : ℕ) (o : Option (List ℤ)) (r : Result Numbers Refusal) : Type 0 where
+  no_numbers : o ≡ none → r ≡ Err (record { fault = NotOfForm; place = place }) → Answered gs place end o r
+  one_outside : (ns : List ℤ) → o ≡ some ns → any_outside gs ns ≡ true → r ≡ Err (record { fault = NumberOutOfRange; place = place }) → Answered gs place end o r
+  all_inside : (ns : List ℤ) → o ≡ some ns → any_outside gs ns ≡ false → r ≡ Ok (numbers_from (all_held gs ns) end) → Answered gs place end o r
 
-pub answered : (gs : List Asked) (end : ℕ) (o : Option (List ℤ)) (r : Result Numbers Fault) → r ≡ numbers_to gs end o → Answered gs end o r
-answered gs end none r e = no_numbers refl e
-answered gs end (some ns) r e = go (any_outside gs ns) refl
+pub answered : (gs : List Asked) (place end : ℕ) (o : Option (List ℤ)) (r : Result Numbers Refusal) → r ≡ numbers_to gs place end o → Answered gs place end o r
+answered gs place end none r e = no_numbers refl e
+answered gs place end (some ns) r e = go (any_outside gs ns) refl
   where
-    go : (b : Bool) → any_outside gs ns ≡ b → Answered gs end (some ns) r
+    go : (b : Bool) → any_outside gs ns ≡ b → Answered gs place end (some ns) r
     go true q = one_outside ns refl q (e ∙ rw q)
     go false q = all_inside ns refl q (e ∙ rw q)
 
 -- no numbers were told, or one is outside its range
-pub data Faulty (gs : List Asked) (o : Option (List ℤ)) (f : Fault) : Type 0 where
-  unformed : o ≡ none → f ≡ NotOfForm → Faulty gs o f
-  outside : (ns : List ℤ) → o ≡ some ns → any_outside gs ns ≡ true → f ≡ NumberOutOfRange → Faulty gs o f
+pub data Faulty (gs : List Asked) (place : ℕ) (o : Option (List ℤ)) (x : Refusal) : Type 0 where
+  unformed : o ≡ none → x ≡ record { fault = NotOfForm; place = place } → Faulty gs place o x
+  outside : (ns : List ℤ) → o ≡ some ns → any_outside gs ns ≡ true → x ≡ record { fault = NumberOutOfRange; place = place } → Faulty gs place o x
 
 -- numbers that are held
 pub record Told (gs : List Asked) (o : Option (List ℤ)) (end : ℕ) (x y z : ℤ) (e : ℕ) : Type 0 where
@@ -80,11 +80,11 @@ pub record Told (gs : List Asked) (o : Option (List ℤ)) (end : ℕ) (x y z : �
   pub third : z ≡ get_or (all_held gs given) 2 (pos 0)
   pub ends : e ≡ end
 
-module _ {gs : List Asked} {end : ℕ} {o : Option (List ℤ)} {r : Result Numbers Fault} (a : Answered gs end o r) where
-  pub not_told : {f : Fault} → r ≡ Err f → Faulty gs o f
-  not_told {f} is = go a
+module _ {gs : List Asked} {place end : ℕ} {o : Option (List ℤ)} {r : Result Numbers Refusal} (a : Answered gs place end o r) where
+  pub not_told : {x : Refusal} → r ≡ Err x → Faulty gs place o x
+  not_told {x} is = go a
     where
-      go : Answered gs end o r → Faulty gs o f
+      go : Answered gs place end o r → Faulty gs place o x
       go (no_numbers q a) = unformed q cc
       go (one_outside ns q u a) = outside ns q u cc
       go (all_inside ns q u a) = absurd (let z : ◌≡◌ {A = ℕ} 0 1 = cc in omega arith)
@@ -92,7 +92,7 @@ module _ {gs : List Asked} {end : ℕ} {o : Option (List ℤ)} {r : Result Numbe
   pub told : {x y z : ℤ} {e : ℕ} → r ≡ Ok (as_numbers x y z e) → Told gs o end x y z e
   told {x} {y} {z} {e} is = go a
     where
-      go : Answered gs end o r → Told gs o end x y z e
+      go : Answered gs place end o r → Told gs o end x y z e
       go (no_numbers nothing a) = absurd (let z : ◌≡◌ {A = ℕ} 0 1 = cc in omega arith)
       go (one_outside ns q u a) = absurd (let z : ◌≡◌ {A = ℕ} 0 1 = cc in omega arith)
       go (all_inside ns q u a) =
@@ -137,8 +137,8 @@ module _ (levels : Levels) (h : Header) (found : WordAt) (is_found : found ≡ w
   unfolding word_judged
   no_word g lines t q e = let lacks : has_word g (held_word v) ≡ false = ap (has_word g) (sym held_as_lem) ∙ sym q ∙ e in rw lacks
 
-  module _ (turns : Bool) (is_turned : turns ≡ turns_level levels found.row.fields) (header : T (header_in_range h)) (r : Result Numbers Fault)
-      (q : r ≡ numbers_to (asked_by turns found.row h.top) end (numbers_in (map read_as (asked_by turns found.row h.top)) rest)) where
+  module _ (turns : Bool) (is_turned : turns ≡ turns_level levels found.row.fields) (header : T (header_in_range h)) (r : Result Numbers Refusal)
+      (q : r ≡ numbers_to (asked_by turns found.row h.top) (n + 2) end (numbers_in (map read_as (asked_by turns found.row h.top)) rest)) where
     few : h.top ≤ 60
     few = (header_facts h header).top.most
 
@@ -159,11 +159,11 @@ module _ (levels : Levels) (h : Header) (found : WordAt) (is_found : found ≡ w
     described_so = ap₂ (λ (b : Bool) (f : WordAt). asked_by b f.row h.top) turns_so is_found ∙ asks.asked
 
     -- by which they are read as by their description
-    answer : Answered gs end (numbers_in (word_fields v) rest) r
+    answer : Answered gs (n + 2) end (numbers_in (word_fields v) rest) r
     answer =
-        answered gs end (numbers_in (word_fields v) rest) r
-        (q ∙ ap (λ (as' : List Asked). numbers_to as' end (numbers_in (map read_as as') rest)) described_so
-        ∙ ap (numbers_to gs end) (sym (alike_numbers (word_fields v) (map read_as gs) rest asks.read_so)))
+        answered gs (n + 2) end (numbers_in (word_fields v) rest) r
+        (q ∙ ap (λ (as' : List Asked). numbers_to as' (n + 2) end (numbers_in (map read_as as') rest)) described_so
+        ∙ ap (numbers_to gs (n + 2) end) (sym (alike_numbers (word_fields v) (map read_as gs) rest asks.read_so)))
 
     held_so : (ns : List ℤ) → numbers_in (word_fields v) rest ≡ some ns → Fields Held fs ns
     held_so ns read = numbers_held fs rest (sym (alike_numbers (word_fields v) fs rest asks.same) ∙ read)
@@ -197,16 +197,16 @@ module _ (levels : Levels) (h : Header) (found : WordAt) (is_found : found ≡ w
       pub level_unsigned : turns ≡ true → T (non_neg (machine z))
       level_unsigned t = subst (λ (u : ℤ). T (non_neg u)) (sym third_is) (asks.unsigned (sym turns_so ∙ t) numbers_told.given given_held numbers_told.inside)
 
-      module _ (level : Result ℤ Fault) (turned : level ≡ level_held turns h.top (machine y) (machine z)) where
-        turned_so : level_held (turns_level levels (row_in v).fields) h.top (at 1) (at 2) ≡ level
-        turned_so = sym (turned ∙ (λ i. level_held (turns_so i) h.top (second_is i) (third_is i)))
+      module _ (level : Result ℤ Refusal) (turned : level ≡ level_held (n + 2) turns h.top (machine y) (machine z)) where
+        turned_so : level_held (n + 2) (turns_level levels (row_in v).fields) h.top (at 1) (at 2) ≡ level
+        turned_so = sym (turned ∙ (λ i. level_held (n + 2) (turns_so i) h.top (second_is i) (third_is i)))
 
-        low : level ≡ Err NumberOutOfRange → range_of levels h v numbers_told.given ≡ false
-        low q = asks.too_low numbers_told.given given_held numbers_told.inside (turned_so ∙ q)
+        low : (k : Refusal) → level ≡ Err k → range_of levels h v numbers_told.given ≡ false
+        low k q = asks.too_low numbers_told.given given_held numbers_told.inside (n + 2) k (turned_so ∙ q)
 
         module _ (u : ℤ) (held : level ≡ Ok u) where
           fits : LevelFits levels h v fs numbers_told.given u
-          fits = asks.level_held_lem numbers_told.given given_held numbers_told.inside u (turned_so ∙ held)
+          fits = asks.level_held_lem numbers_told.given given_held numbers_told.inside (n + 2) u (turned_so ∙ held)
 
           level_is : machine u ≡ u
           level_is = small_held u fits.small
@@ -244,34 +244,34 @@ module _ (levels : Levels) (h : Header) (found : WordAt) (is_found : found ≡ w
         unfolding judged_as
         word_judged_lem e = tested ∙ rw (is_word_lem, e) (ap (λ (ts : Tests). judged ts (held_as levels h x)) (operand_tests_lem levels g h lines x))
 
-      pub not_read : (f : Fault) → r ≡ Err f → refused (number_of f) (n + 2) ≡ line_to (place_of n) (end + 1) (word_judged levels g h lines v rest)
+      pub not_read : (k : Refusal) → r ≡ Err k → refused (number_of k.fault) k.place ≡ line_to (place_of n) (end + 1) (word_judged levels g h lines v rest)
       unfolding word_judged
-      not_read f is = go (not_told answer is)
+      not_read k is = go (not_told answer is)
         where
-          go : Faulty gs (numbers_in (word_fields v) rest) f → refused (number_of f) (n + 2) ≡ line_to (place_of n) (end + 1) (word_judged levels g h lines v rest)
-          go (unformed q k) = rw (k, has_word_lem, q)
-          go (outside ns q u k) =
-              rw k (sym (ap (line_to (place_of n) (end + 1)) (out ns q (asks.outside ns (held_so ns q) u))))
+          go : Faulty gs (n + 2) (numbers_in (word_fields v) rest) k → refused (number_of k.fault) k.place ≡ line_to (place_of n) (end + 1) (word_judged levels g h lines v rest)
+          go (unformed q is) = rw (is, has_word_lem, q)
+          go (outside ns q u is) =
+              rw is (sym (ap (line_to (place_of n) (end + 1)) (out ns q (asks.outside ns (held_so ns q) u))))
 
-      module _ (x y z : ℤ) (e : ℕ) (is : r ≡ Ok (as_numbers x y z e)) (level : Result ℤ Fault) (turned : level ≡ level_held turns h.top (machine y) (machine z)) where
+      module _ (x y z : ℤ) (e : ℕ) (is : r ≡ Ok (as_numbers x y z e)) (level : Result ℤ Refusal) (turned : level ≡ level_held (n + 2) turns h.top (machine y) (machine z)) where
         abbrev numbers : Told gs (numbers_in (word_fields v) rest) end x y z e
         numbers = numbers_told x y z e is
 
-        pub level_outside : (f : Fault) → level ≡ Err f → refused (number_of f) (n + 2) ≡ line_to (place_of n) (end + 1) (word_judged levels g h lines v rest)
-        level_outside f o =
-            let low_so = level_fault turns h.top (machine y) (machine z) (sym turned ∙ o) in
-            rw low_so (sym (ap (line_to (place_of n) (end + 1)) (out numbers.given numbers.read (low x y z e is level turned (o ∙ ap (λ (k : Fault). Err k) low_so)))))
+        pub level_outside : (k : Refusal) → level ≡ Err k → refused (number_of k.fault) k.place ≡ line_to (place_of n) (end + 1) (word_judged levels g h lines v rest)
+        level_outside k o =
+            rw (level_refused (n + 2) turns h.top (machine y) (machine z) (sym turned ∙ o))
+            (sym (ap (line_to (place_of n) (end + 1)) (out numbers.given numbers.read (low x y z e is level turned k o))))
 
         pub line_judged_lem :
             (u : ℤ) → level ≡ Ok u → length lines ≤ 1792 →
             (line : FormedLine) →
-            line ≡ record { word = found.word; asks = found.row.asks; first = machine x; second = machine y; third = machine u; end = e + 1 } → (a : Result StoredLine Fault) →
-            line_read (place_of n) a ≡ line_to (place_of n) line.end (judged_as g lines (line_of line.word (line.first ∷ line.second ∷ line.third ∷ []))) →
-            line_read (place_of n) a ≡ line_to (place_of n) (end + 1) (word_judged levels g h lines v rest)
+            line ≡ record { word = found.word; asks = found.row.asks; first = machine x; second = machine y; third = machine u; end = e + 1 } → (a : Result StoredLine Refusal) →
+            line_read a ≡ line_to (place_of n) line.end (judged_as g lines (line_of line.word (line.first ∷ line.second ∷ line.third ∷ []))) →
+            line_read a ≡ line_to (place_of n) (end + 1) (word_judged levels g h lines v rest)
         line_judged_lem u held short line made a j =
             let level_fits = fits x y z e is level turned u held in
             subst
-            (λ (l : FormedLine). line_read (place_of n) a ≡ line_to (place_of n) l.end (judged_as g lines (line_of l.word (l.first ∷ l.second ∷ l.third ∷ []))))
+            (λ (l : FormedLine). line_read a ≡ line_to (place_of n) l.end (judged_as g lines (line_of l.word (l.first ∷ l.second ∷ l.third ∷ []))))
             made j
             ∙ ap₂ (λ (m : ℕ) (l : Line). line_to (place_of n) (m + 1) (judged_as g lines l)) numbers.ends
             ((λ i. line_of (held_as_lem i) (first_is x y z e is i ∷ second_is x y z e is i ∷ level_is x y z e is level turned u held i ∷ [])) ∙ level_fits.line)

@@ -6,11 +6,11 @@ use Rattle.fields.specs.Pieces.{Bytes}
 use Rattle.rows.specs.Forms.{Form, worded, made}
 use Rattle.rows.specs.Rows.{Judgement, good, bad, Tests, formed}
 use Rattle.model.specs.declared.Grammar.{Grammar}
-use Rattle.model.specs.declared.Fault.{Fault}
 use Rattle.model.specs.declared.Fault.TheVariants.{NumberOutOfRange}
 use Rattle.model.specs.declared.Header.{Header}
 use Rattle.model.specs.declared.Line.{Line}
 use Rattle.model.specs.declared.Line.TheVariants.{Rs}
+use Rattle.model.specs.declared.Refusal.{Refusal}
 use Rattle.model.specs.Words.{has_word}
 use Rattle.model.specs.Files.{line_tests}
 use Rattle.listings.specs.declared.Levels.{Levels}
@@ -60,10 +60,12 @@ fields_asked turns row top =
 abbrev pub asked_by : Bool → WordRow → ℕ → List Asked
 asked_by turns row top = described (fields_asked turns row top)
 
--- the third number as it is held
-unfoldable pub level_held : Bool → ℕ → ℤ → ℤ → Result ℤ Fault
-level_held turns top second third =
-    cond turns (cond (lt_z second (pos 1) || lt_z (pos top -ℤ third) (pos 1)) (Err NumberOutOfRange) (Ok (pos top -ℤ third))) (Ok third)
+-- the third number as it is held, in a line with this place
+unfoldable pub level_held : ℕ → Bool → ℕ → ℤ → ℤ → Result ℤ Refusal
+level_held place turns top second third =
+    cond turns
+    (cond (lt_z second (pos 1) || lt_z (pos top -ℤ third) (pos 1)) (Err (record { fault = NumberOutOfRange; place = place })) (Ok (pos top -ℤ third)))
+    (Ok third)
 
 -- ---- the line
 -- one whose word ends here, after lines that are held: 1 where the file has no such word

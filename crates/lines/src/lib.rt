@@ -16,7 +16,7 @@ ghost use Rattle.lines.specs.Lines.{turns_level, fields_asked, asked_by, level_h
 use forms::{FieldsAsked, Numbers};
 use judging::{FormedLine, StoredLine};
 use listings::Levels;
-use model::{Fault, Grammar, Header};
+use model::{Fault, Grammar, Header, Refusal};
 use tables::Record;
 use words::{WordAt, WordRow};
 
@@ -41,32 +41,36 @@ fn fields_asked(row: WordRow, turns: bool, top: u32) -> FieldsAsked
     }
 }
 
-// The numbers of these fields.
+// The numbers of these fields, in the line with this place.
 fn numbers_of(
+    place: u32,
     text: &[u8],
     start: usize,
     row: WordRow,
     turns: bool,
     top: u32,
-) -> Result<Numbers, Fault>
+) -> Result<Numbers, Refusal>
     requires { row.fields ≤ 3 }
-    ensures { result ≡ numbers_to (asked_by turns row top) (start + length (line_in (drop start text.now))) (numbers_in (map read_as (asked_by turns row top)) (drop start text.now)) }
+    ensures { result ≡ numbers_to (asked_by turns row top) place (start + length (line_in (drop start text.now))) (numbers_in (map read_as (asked_by turns row top)) (drop start text.now)) }
 {
-    forms::numbers_at(text, start, &fields_asked(row, turns, top))
+    forms::numbers_at(place, text, start, &fields_asked(row, turns, top))
 }
 
 // A line's third number as its record holds it, a level counted down, unless the scale before it or the level is outside its range.
 #[tactic(auto, unfolding(crate::specs::Lines::level_held))]
-fn level_held(turns: bool, top: u32, second: i64, third: i64) -> Result<i64, Fault>
+fn level_held(place: u32, turns: bool, top: u32, second: i64, third: i64) -> Result<i64, Refusal>
     requires { turns ≡ true → T (non_neg third) }
-    ensures { result ≡ level_held turns top second third }
+    ensures { result ≡ level_held place turns top second third }
 {
     if !turns {
         return Ok(third);
     }
     let level = (top as i64) - third;
     if second < 1 || level < 1 {
-        return Err(Fault::NumberOutOfRange);
+        return Err(Refusal {
+            fault: Fault::NumberOutOfRange,
+            place,
+        });
     }
     Ok(level)
 }
@@ -81,21 +85,25 @@ pub fn read_line(
     count: usize,
     text: &[u8],
     found: WordAt,
-) -> Result<StoredLine, Fault>
+) -> Result<StoredLine, Refusal>
     requires t { T (header_in_range header) }
     requires count_in_bounds { count ≤ length records.now }
     requires count_bound { count ≤ 1792 }
     requires found_value { found ≡ word_found (listed_word found) found.end }
-    ensures { line_read (place_of count) result ≡ line_to (place_of count) (found.end + length (line_in (drop found.end text.now)) + 1) (word_judged levels grammar header (lines_held records.now count) (listed_word found) (drop found.end text.now)) }
+    ensures { line_read result ≡ line_to (place_of count) (found.end + length (line_in (drop found.end text.now)) + 1) (word_judged levels grammar header (lines_held records.now count) (listed_word found) (drop found.end text.now)) }
 {
+    let place = (count as u32) + 2;
     let word = found.word;
     if !words::is_word_of(grammar, word) {
-        return Err(Fault::NotOfForm);
+        return Err(Refusal {
+            fault: Fault::NotOfForm,
+            place,
+        });
     }
     let row = found.row;
     let turns = turns_level(levels, row.fields);
-    let numbers = numbers_of(text, found.end, row, turns, header.top)?;
-    let level = level_held(turns, header.top, numbers.second, numbers.third)?;
+    let numbers = numbers_of(place, text, found.end, row, turns, header.top)?;
+    let level = level_held(place, turns, header.top, numbers.second, numbers.third)?;
     let line = FormedLine {
         word,
         asks: row.asks,

@@ -39,7 +39,6 @@ use Rattle.words.specs.Words.{listed_in, held_word, word_found, listed_word, pas
 use Rattle.words.proofs.WordLaws.{found_listed}
 use Rattle.judging.specs.declared.StoredLine.{StoredLine}
 use Rattle.std.specs.Prelude.{Result, Ok, Err}
-use Rattle.model.specs.declared.Fault.{Fault}
 use Rattle.model.specs.declared.Fault.TheVariants.{TooManyLines}
 use Rattle.model.specs.declared.Refusal.{Refusal}
 use Rattle.model.specs.Refusals.{number_of}
@@ -237,8 +236,8 @@ module _ {levels : Levels} {c : Context} {h : Header} {s : Bytes} {start : ℕ} 
     unfolding next_line
     too_many_lem e = sym (comes_to (bad 3) (rw (limits, e)))
 
-    module _ (within : over ≡ false) (got : Result StoredLine Fault)
-        (told : line_read (place_of count) got ≡ line_to (place_of count) (found.end + length (line_in (drop found.end s)) + 1)
+    module _ (within : over ≡ false) (got : Result StoredLine Refusal)
+        (told : line_read got ≡ line_to (place_of count) (found.end + length (line_in (drop found.end s)) + 1)
         (word_judged levels c.grammar h (lines_held records count) v (drop found.end s))) where
       abbrev end : ℕ
       end = found.end + length (line_in (drop found.end s)) + 1
@@ -260,11 +259,11 @@ module _ {levels : Levels} {c : Context} {h : Header} {s : Bytes} {start : ℕ} 
       within_limits = limits ∙ within
 
       -- a line that is refused
-      pub line_refused : (k : Fault) → got ≡ Err k → reading_of (Err (record { fault = k; place = count + 2 })) records ≡ reading_held levels (rest_from levels c h [] (lines_of (drop start s)))
+      pub line_refused : (k : Refusal) → got ≡ Err k → reading_of (Err k) records ≡ reading_held levels (rest_from levels c h [] (lines_of (drop start s)))
       line_refused k e =
-          let line = refused_line_lem (place_of count) end judged (sym (ap (line_read (place_of count)) e) ∙ told) in
+          let line = refused_line_lem (place_of count) end judged (sym (ap line_read e) ∙ told) in
           let next = held_bad levels h (next_line levels c h f.rows (drop at s)) (next_by_word ∙ line.judged) in
-          sym (comes_to (bad (number_of k)) next)
+          sym (comes_to (bad (number_of k.fault)) next ∙ ap (refused (number_of k.fault)) (sym line.where_it_is))
 
       module _ (m : StoredLine) (good-line : got ≡ Ok m) where
         abbrev x : Line
@@ -274,7 +273,7 @@ module _ {levels : Levels} {c : Context} {h : Header} {s : Bytes} {start : ℕ} 
         e = m.end
 
         line : TakenLine end e x judged
-        line = taken_line (place_of count) end judged (sym (ap (line_read (place_of count)) good-line) ∙ told)
+        line = taken_line (place_of count) end judged (sym (ap line_read good-line) ∙ told)
 
         next : HeldGood levels h x (next_line levels c h f.rows (drop at s))
         next = held_good levels h (next_line levels c h f.rows (drop at s)) (next_by_word ∙ line.judged)

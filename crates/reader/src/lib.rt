@@ -88,8 +88,9 @@ fn read_lines(
         if past_limits(context, count, kept, word) {
             return refused(Fault::TooManyLines, count);
         }
+        // By match: with `?` in its place a program that read files of `in` lines took 1.06 times the instructions.
         match lines::read_line(levels, grammar, header, records, count, text, found) {
-            Err(fault) => return refused(fault, count),
+            Err(refusal) => return Err(refusal),
             Ok(line) => {
                 records[count] = line.held;
                 count += 1;

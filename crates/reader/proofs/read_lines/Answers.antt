@@ -8,7 +8,7 @@ pub returns-then-past_limits-clause-records_after : goal.returns-then-past_limit
 returns-then-past_limits-clause-records_after c = rw c.refused.ensures (search filling_laws)
 
 pub returns-in-Err-clause-records_after : goal.returns-in-Err-clause-records_after
-returns-in-Err-clause-records_after c = rw c.refused-in-Err.ensures (search filling_laws)
+returns-in-Err-clause-records_after c = search filling_laws
 
 pub bounds-records-count : goal.bounds-records-count
 bounds-records-count c = search filling_laws
