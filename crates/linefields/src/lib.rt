@@ -1,10 +1,11 @@
-// Puts the fields of a line, by its word, into what takes texts.
+// Puts the fields of a line, by its word, into what takes texts, and says how many bytes they are.
 #![tactic(auto)]
 
 ghost use Rattle.text.specs.Files.{line_form};
+ghost use Rattle.spelling.specs.Put.{Counted};
 
 use model::Line;
-use spelling::sinks::Sink;
+use spelling::sinks::{Counter, Sink};
 
 // A free record has no fields.
 pub fn put_fields<S: Sink>(sink: &mut S, line: Line)
@@ -30,4 +31,13 @@ pub fn put_fields<S: Sink>(sink: &mut S, line: Line)
         Line::Us(a, b) => spelling::put_said(sink, b"us", [a as u32, b as u32]),
         Line::Free => {}
     }
+}
+
+// How many bytes that is, of one line alone: what writes a file counts it whole.
+pub fn fields_len(line: Line) -> usize
+    ensures { Counted (line_form.text line) 71 result }
+{
+    let mut counter = Counter { count: 0 };
+    put_fields(&mut counter, line);
+    counter.count
 }

@@ -1,14 +1,14 @@
 // Spells a word and the numbers after it: once, for a buffer that is lent and for a count of bytes alike.
 #![tactic(auto)]
 
-ghost use Rattle.std.specs.Prelude.{◌≡◌, [], ◌∷◌, ◌+◌, ◌≤◌, ◌<◌, length, map, nat_abs};
+ghost use Rattle.std.specs.Prelude.{◌≡◌, [], ◌∷◌, ◌+◌, ◌*◌, ◌^◌, ◌≤◌, ◌<◌, length, map, nat_abs};
 ghost use Rattle.fields.specs.Pieces.{tab, join};
 ghost use Rattle.fields.specs.Numbers.{decimal, amount_text};
 ghost use Rattle.spelling.specs.Put.{Put, Counted, last_digit, is_negative};
 
 pub mod sinks;
 
-use sinks::Sink;
+use sinks::{Counter, Sink};
 
 // ---- numbers, in decimal digits
 // The place goes beside the buffer here, since each call hands on the place that it reached: with a `Buffer` it is no plainer.
@@ -97,7 +97,7 @@ fn put_number_field<S: Sink>(sink: &mut S, n: u32)
     requires { S.can_take sink.old (tab ∷ decimal n) }
     ensures { S.took sink.old (tab ∷ decimal n) sink.new }
 {
-    sink.put_byte(b'\t');
+    sink.put_byte(b'\t'); // before each number, the first too
     sink.put_number(n);
 }
 
@@ -119,4 +119,32 @@ pub fn put_said<S: Sink, const N: usize>(sink: &mut S, word: &[u8], numbers: [u3
     for n in numbers {
         put_number_field(sink, n);
     }
+}
+
+// ---- lengths: how many bytes such texts have, and at most. What writes a whole text counts it whole; these say it of a part.
+// A word and numbers: at most 21 bytes for each number and its tab.
+pub fn said_len<const N: usize>(word: &[u8], numbers: [u32; N]) -> usize
+    requires word_len_bound { length word.now ≤ 8 }
+    requires count_bound { N < 2 ^ 32 }
+    ensures { Counted (join tab (word.now ∷ map decimal numbers.entry)) (8 + 21 * N) result }
+{
+    let mut said_bytes = Counter { count: 0 };
+    put_said(&mut said_bytes, word, numbers);
+    said_bytes.count
+}
+
+fn amount_len(amount: i16) -> usize
+    ensures { Counted (amount_text amount) 21 result }
+{
+    let mut amount_bytes = Counter { count: 0 };
+    put_amount(&mut amount_bytes, amount);
+    amount_bytes.count
+}
+
+// A word, a number and an amount.
+pub fn rot_len(word: &[u8], a: u32, amount: i16) -> usize
+    requires { length word.now ≤ 8 }
+    ensures { Counted (join tab (word.now ∷ decimal a ∷ amount_text amount ∷ [])) 51 result }
+{
+    said_len(word, [a]) + 1 + amount_len(amount)
 }

@@ -19,11 +19,12 @@ use spelling::sinks::{Buffer, Counter, Sink};
 use tables::Record;
 
 // ---- lines, each closed by a line feed
+// The one after a word and numbers; `put_line` puts its own.
 fn end_line<S: Sink>(sink: &mut S)
     requires { S.can_take sink.old (line_feed ∷ []) }
     ensures { S.took sink.old (line_feed ∷ []) sink.new }
 {
-    sink.put_byte(b'\n');
+    sink.put_byte(b'\n')
 }
 
 // A free record has no fields.
@@ -32,7 +33,7 @@ fn put_line<S: Sink>(sink: &mut S, line: Line)
     ensures { S.took sink.old (text_of (line_form.text line ∷ [])) sink.new }
 {
     linefields::put_fields(sink, line);
-    end_line(sink);
+    sink.put_byte(b'\n');
 }
 
 // A word and numbers after it.

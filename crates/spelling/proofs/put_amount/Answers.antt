@@ -1,4 +1,5 @@
 use Rattle.std.proofs.Common.{refl}
+use Rattle.spelling.specs.Put.{is_negative}
 use Rattle.spelling.proofs.Amounts.{minus_text, minus_below, no_minus_above, amount_is}
 use Rattle.spelling.proofs.Signs.{held}
 use Rattle.spelling.proofs.Taking.{room_of_first, room_of_next, took_both}
@@ -9,7 +10,7 @@ use Rattle.spelling.proofs.put_amount.Goals.{After-magnitude, then-is_negative, 
 pub put_byte-requires : goal.put_byte-requires
 put_byte-requires g c =
     let z = held c.args.amount in
-    let minus = minus_below z _ c.is_negative.ensures c.if-is_negative.true in
+    let minus = minus_below z (is_negative z) refl (cc) in
     rw minus at (room_of_first g.met.S.Sink.laws {x = minus_text z} _ (amount_is c.args.amount c.ranges.amount _ refl) c.requires)
 
 -- the sink after the minus, if there is one
@@ -17,8 +18,8 @@ signed : (g : given.Over) (c : goal.After-magnitude g) → g.S.Sink.took c.args.
 signed g c =
     let z = held c.args.amount in
     elim c.if-is_negative.branch [
-      | then-is_negative w ↦ rw (w.sink-is, minus_below z _ c.is_negative.ensures w.if-is_negative.true) w.put_byte.ensures
-      | else-is_negative w ↦ rw (w.sink-is, no_minus_above z _ c.is_negative.ensures w.if-is_negative.false) (g.met.S.Sink.laws.nothing _)
+      | then-is_negative w ↦ rw (w.sink-is, minus_below z (is_negative z) refl (cc)) w.put_byte.ensures
+      | else-is_negative w ↦ rw (w.sink-is, no_minus_above z (is_negative z) refl (cc)) (g.met.S.Sink.laws.nothing _)
     ]
 
 pub put_number-requires : goal.put_number-requires
