@@ -6,7 +6,8 @@ use mathlib.Core.Path.{◌≡◌, refl, sym, ap, ◌∙◌, subst}
 use mathlib.Core.List.{List}
 use borrow.Author.Tests.{ne_eqb}
 use lib.Dec.{eqb}
-use Rattle.std.specs.Prelude.{Result, Ok, Err, IfErr}
+use Rattle.std.specs.Prelude.{Result, Ok, Err, IfErr, IsErrAnd}
+use Rattle.std.proofs.lemmas.Result.{err_from_is_err_and}
 use Rattle.fields.specs.Pieces.{Bytes}
 use Rattle.model.specs.declared.Answer.{Answer}
 use Rattle.model.specs.declared.Answer.TheVariants.{Refused}
@@ -23,6 +24,7 @@ use Rattle.tables.specs.Records.{held}
 use Rattle.tables.specs.Files.{circuit_held}
 use Rattle.reader.specs.Reads.{circuit_told}
 use Rattle.plantable.specs.Plans.{planned_of}
+use Rattle.replies.specs.declared.FileRefusal.{FileRefusal}
 use Rattle.replies.specs.Told.{reply_to}
 use Rattle.services.specs.Outcomes.{writes, reply_of, Replied}
 use Rattle.services.specs.Calls.{answered, planned, plan_outcome, least_outcome}
@@ -44,8 +46,11 @@ module _ (circuit : Bytes) (file : Result CircuitTable Refusal) (q : circuit_tol
       outcome_is v e =
           ap planned (ap (planned_of t.header schedule) (sym e) ∙ k) ∙ once_read_lem 1 (λ f. planned (plan f)) (file_of (circuit_held t)) reads
 
-      pub plan_too_few : (out : Bytes) (x : Refusal) → w ≡ Err x → Replied (plan_outcome circuit) out (reply_to (Err (record { file = 1; refusal = x }))) out
-      plan_too_few out x n = replied_as (outcome_is (Err x) n) (refusal_replied (number_of x.fault) 1 x.place out _ refl)
+      pub plan_too_few : (out : Bytes) (x : Refusal) → w ≡ Err x → (r : Result ℕ FileRefusal) → IsErrAnd r (λ e. e ≡ record { file = 1; refusal = x })
+          → Replied (plan_outcome circuit) out (reply_to r) out
+      plan_too_few out x n r e =
+          let p = err_from_is_err_and r e in
+          rw (p.1, p.2) (replied_as (outcome_is (Err x) n) (refusal_replied (number_of x.fault) 1 x.place out _ refl))
 
       pub plan_text : (size : ℕ) → w ≡ Ok size → writes (file_text Schedule (file_of (held t.header schedule size))) ≡ plan_outcome circuit
       plan_text size n = outcome_is (Ok size) n
@@ -64,8 +69,11 @@ module _ (circuit : Bytes) (file : Result CircuitTable Refusal) (q : circuit_tol
     pub least_found : (n : ℕ) → l ≡ Ok n → reply_to (Ok n) ≡ reply_of (least_outcome circuit)
     least_found n e = comes_to (Ok n) e
 
-    pub least_refused : (x : Refusal) → l ≡ Err x → IfErr l (λ (f : Refusal). 0 < f.place) → reply_to (Err (record { file = 1; refusal = x })) ≡ reply_of (least_outcome circuit)
-    least_refused x e some = ap (λ (f : ℕ). reply_to (Err (record { file = f; refusal = x }))) (sym this_file) ∙ comes_to (Err x) e
+    pub least_refused : (x : Refusal) → l ≡ Err x → IfErr l (λ (f : Refusal). 0 < f.place) → (r : Result ℕ FileRefusal)
+        → IsErrAnd r (λ e. e ≡ record { file = 1; refusal = x }) → reply_to r ≡ reply_of (least_outcome circuit)
+    least_refused x e some r made =
+        let p = err_from_is_err_and r made in
+        rw (p.1, p.2) (ap (λ (f : ℕ). reply_to (Err (record { file = f; refusal = x }))) (sym this_file) ∙ comes_to (Err x) e)
       where
         placed : 0 < x.place
         placed = subst (λ (m : Result ℕ Refusal). IfErr m (λ (f : Refusal). 0 < f.place)) e some
