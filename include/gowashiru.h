@@ -41,7 +41,7 @@ extern "C" {
 #define GOWASHIRU_MOST_CONSTANT 4294967295u
 
 /* The stack to give a thread. At most 39,704 bytes were measured on x86-64 (from rising; check 39,672, quote 34,664,
- * erase 32,712, plan 31,128, live 25,384, live after 25,368, live peak 25,352, to rising 21,864, may drop 18,232, least level 15,608) by
+ * erase 32,776, plan 31,128, live 25,448, live after 25,432, live peak 25,416, to rising 21,864, may drop 18,296, least level 15,752) by
  * tests/host/stack.c, on full files with the longest numbers in them. */
 #define GOWASHIRU_STACK_BYTES 131072
 
