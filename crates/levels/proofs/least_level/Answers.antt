@@ -1,6 +1,9 @@
 use Rattle.levels.proofs.Seeking.{seeking}
 use Rattle.levels.proofs.least_level.Goals as goal
 
+pub levels-init : goal.levels-init
+levels-init c = search seeking
+
 pub loop-i-init : goal.loop-i-init
 loop-i-init c = search seeking
 
